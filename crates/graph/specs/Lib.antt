@@ -1,0 +1,5 @@
+pub mod Arcs
+pub mod Ends
+pub mod Graphs
+pub mod Index
+pub mod Listing
