@@ -1,0 +1,9 @@
+pub mod Arcs
+pub mod Faults
+pub mod Format
+pub mod Laws
+pub mod Limits
+pub mod Networks
+pub mod Reading
+pub mod Refusals
+pub mod Writing
