@@ -1,0 +1,4 @@
+pub mod Reading
+pub mod Checks
+pub mod Logs
+pub mod Whole
