@@ -1,10 +1,9 @@
 -- Lists whose first n are in another order, and the rest as it was.
-use Rattle.std.proofs.Common.{◌≡◌, ℕ, zero, suc, ◌+◌, ◌-◌, ◌<◌, ◌≤◌, List, [], ◌∷◌, ◌++◌, length, get_or, take, drop, set, sym, refl, ap, ◌∙◌, subst, append_assoc, append-nil, not-suc-le-zero, arith, length-set, length-take, get_or-drop, get_or-take, drop-set-lt}
+use Rattle.std.proofs.Common.{◌≡◌, ℕ, zero, suc, ◌+◌, ◌-◌, ◌<◌, ◌≤◌, List, [], ◌∷◌, length, get_or, take, drop, set, sym, refl, ap, ◌∙◌, subst, not-suc-le-zero, arith, length-set, length-take, get_or-drop, get_or-take, drop-set-lt}
 use lib.Seq.{take-set-lt}
-use Rattle.std.specs.List.Sorted.{IsPermutation}
 use Rattle.std.specs.List.{swap}
 use Rattle.std.proofs.lemmas.List.{get_or_default}
-use Rattle.std.proofs.lemmas.List.Sorted.{IsPermutation-refl, IsPermutation-trans, IsPermutation-sym, IsPermutation-cons, IsPermutation-to_front}
+use Rattle.std.proofs.lemmas.List.Sorted.{IsPermutation-refl, IsPermutation-trans, IsPermutation-sym}
 use Rattle.std.proofs.ByRecursion.{has_shuffled}
 use Rattle.heap.specs.Least.{Moved, Holds}
 
@@ -75,51 +74,3 @@ each_moved P n xs ys le m f k d l =
     let long = m.len in
     let h = holds_moved n ys xs (get_or ys k d) (back n xs ys m) (k, l, omega arith, λ e. any_default ys k e d (omega arith)) in
     subst P (h.3 d) (f h.0 d h.1)
-
--- ---- what moved among the first n moved among more
-take_none : {X : Type 0} (k : ℕ) → take {A = X} k [] ≡ []
-take_none zero = refl
-take_none (suc k) = refl
-
-drop_none : {X : Type 0} (k : ℕ) → drop {A = X} k [] ≡ []
-drop_none zero = refl
-drop_none (suc k) = refl
-
-take_parts : {X : Type 0} (n m : ℕ) (xs : List X) → n ≤ m → take m xs ≡ take n xs ++ take (m - n) (drop n xs)
-take_parts zero m xs l = ap (λ k. take k xs) (omega arith)
-take_parts (suc n) zero xs l = absurd (omega arith)
-take_parts (suc n) (suc m) [] l = sym (take_none (suc m - suc n))
-take_parts {X} (suc n) (suc m) (x ∷ xs) l =
-    ap {B = List X} (λ r. x ∷ r) (take_parts n m xs (omega arith) ∙ ap {B = List X} (λ k. take n xs ++ take k (drop n xs)) (omega arith))
-
-drop_parts : {X : Type 0} (n m : ℕ) (xs : List X) → n ≤ m → drop m xs ≡ drop (m - n) (drop n xs)
-drop_parts zero m xs l = ap (λ k. drop k xs) (omega arith)
-drop_parts (suc n) zero xs l = absurd (omega arith)
-drop_parts (suc n) (suc m) [] l = sym (drop_none (suc m - suc n))
-drop_parts {X} (suc n) (suc m) (x ∷ xs) l = drop_parts n m xs (omega arith) ∙ ap {B = List X} (λ k. drop k (drop n xs)) (omega arith)
-
-shuffled_behind : {X : Type 0} (zs xs ys : List X) → IsPermutation xs ys → IsPermutation (zs ++ xs) (zs ++ ys)
-shuffled_behind [] xs ys h = h
-shuffled_behind (z ∷ zs) xs ys h = IsPermutation-cons z (zs ++ xs) (zs ++ ys) (shuffled_behind zs xs ys h)
-
-turned_round : {X : Type 0} (xs zs : List X) → IsPermutation (xs ++ zs) (zs ++ xs)
-turned_round {X} xs [] = subst (λ (l : List X). IsPermutation l xs) (sym (append-nil xs)) (IsPermutation-refl xs)
-turned_round {X} xs (z ∷ zs) =
-    let one = z ∷ [] in
-    IsPermutation-trans _ _ _
-    (subst (λ (l : List X). IsPermutation l (zs ++ (xs ++ one))) (append_assoc xs one zs) (turned_round (xs ++ one) zs))
-    (subst (λ (l : List X). IsPermutation l (z ∷ (zs ++ xs))) (append_assoc zs xs one) (IsPermutation-to_front (zs ++ xs) z))
-
-shuffled_before : {X : Type 0} (xs ys zs : List X) → IsPermutation xs ys → IsPermutation (xs ++ zs) (ys ++ zs)
-shuffled_before xs ys zs h =
-    IsPermutation-trans _ _ _ (turned_round xs zs) (IsPermutation-trans _ _ _ (shuffled_behind zs xs ys h) (IsPermutation-sym _ _ (turned_round ys zs)))
-
-pub wider : {X : Type 0} (n m : ℕ) (xs ys : List X) → n ≤ m → Moved n xs ys → Moved m xs ys
-wider {X} n m xs ys l h = record {
-  items =
-      subst (λ (t : List X). IsPermutation t (take m ys)) (sym (take_parts n m xs l))
-      (subst (λ (t : List X). IsPermutation (take n xs ++ take (m - n) (drop n xs)) t) (sym (take_parts n m ys l ∙ ap (λ (r : List X). take n ys ++ take (m - n) r) h.rest))
-      (shuffled_before (take n xs) (take n ys) (take (m - n) (drop n xs)) h.items));
-  rest = drop_parts n m ys l ∙ ap (drop (m - n)) h.rest ∙ sym (drop_parts n m xs l);
-  len = h.len;
-}

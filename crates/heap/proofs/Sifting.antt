@@ -122,7 +122,7 @@ module _ {X : Type 0} {R : X → X → Ordering} (o : IsTotalOrder R) where
     across = λ p k d a b e f l. absurd (omega arith);
   }
 
-module _ {X : Type 0} (R : X → X → Ordering → Type 0) where
+module _ {X : Type 0} (R : X → X → Ordering) where
   -- `least_child`
   pub only_child : (xs : List X) (j c n : ℕ) → c ≡ j * 2 + 1 → n ≤ c + 1 → LeastChild R xs j c n
   unfolding LeastChild

@@ -4,7 +4,7 @@ use Rattle.std.specs.declared.cmp.Ordering.{Ordering}
 use Rattle.std.specs.Cmp.{IsTotalOrder}
 use Rattle.heap.specs.Least.{before, IsHeap, Least, Moved}
 
-module _ {X : Type 0} (R : X → X → Ordering → Type 0) where
+module _ {X : Type 0} (R : X → X → Ordering) where
   -- x is the first of n elements, and the least of them if they are a heap
   pub record Top (xs : List X) (n : ℕ) (x : X) : Type 0 where
     pub some : 0 < n

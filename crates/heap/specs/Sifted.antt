@@ -19,7 +19,7 @@ module _ {X : Type 0} {R : X → X → Ordering} (o : IsTotalOrder R) where
     pub pairs : (p k : ℕ) (d : X) → p * 2 + 1 ≤ k → k ≤ p * 2 + 2 → k < n → (p ≢ j) → before o (slice_index_or xs k d) (slice_index_or xs p d) ≡ false
     pub across : Across xs j n
 
-module _ {X : Type 0} (R : X → X → Ordering → Type 0) where
+module _ {X : Type 0} (R : X → X → Ordering) where
   -- r says whether the element at a comes before the one at b
   abbrev pub Tells : List X → ℕ → ℕ → Bool → Type 0
   Tells xs a b r = (o : IsTotalOrder R) (d : X) → before o (slice_index_or xs a d) (slice_index_or xs b d) ≡ r

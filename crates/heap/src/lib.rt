@@ -9,7 +9,7 @@ use sift::{sift_down, sift_up};
 
 // The least of the first `len`; `None` if there is none.
 pub fn peek<T: Ord + Copy>(items: &[T], len: usize) -> Option<T>
-    ensures { Peeks (λ x' y' r'. r' ≡ T.Ord.cmp x' y') items.now len result }
+    ensures { Peeks T.cmp items.now len result }
 {
     if 0 < len && len <= items.len() {
         Some(items[0])
@@ -20,7 +20,7 @@ pub fn peek<T: Ord + Copy>(items: &[T], len: usize) -> Option<T>
 
 // Takes the least out of the first `len`, and leaves it behind the others, at `len - 1`; `None` if there is none.
 pub fn pop<T: Ord + Copy>(items: &mut [T], len: usize) -> Option<T>
-    ensures { Pops (λ x' y' r'. r' ≡ T.Ord.cmp x' y') items.old len result items.new }
+    ensures { Pops T.cmp items.old len result items.new }
 {
     if len == 0 || items.len() < len {
         return None;
@@ -33,7 +33,7 @@ pub fn pop<T: Ord + Copy>(items: &mut [T], len: usize) -> Option<T>
 
 // Puts `x` in with the first `len`; false if the slice has no room for it.
 pub fn push<T: Ord + Copy>(items: &mut [T], len: usize, x: T) -> bool
-    ensures { Pushes (λ x' y' r'. r' ≡ T.Ord.cmp x' y') items.old len x result items.new }
+    ensures { Pushes T.cmp items.old len x result items.new }
 {
     if items.len() <= len {
         return false;
@@ -45,7 +45,7 @@ pub fn push<T: Ord + Copy>(items: &mut [T], len: usize, x: T) -> bool
 
 // Puts `x` in the place of the element at `i`; false if that is not among the first `len`, or `x` does not come before it.
 pub fn lower<T: Ord + Copy>(items: &mut [T], len: usize, i: usize, x: T) -> bool
-    ensures { Lowers (λ x' y' r'. r' ≡ T.Ord.cmp x' y') items.old len i x result items.new }
+    ensures { Lowers T.cmp items.old len i x result items.new }
 {
     if len <= i || items.len() < len {
         return false;
@@ -90,7 +90,7 @@ impl<'a, T: Ord + Copy> Heap<'a, T> {
 
     // The least element; `None` if the heap is empty.
     pub fn peek(&self) -> Option<T>
-        ensures { Peeks (λ x' y' r'. r' ≡ T.Ord.cmp x' y') self.now.items.now self.now.len result }
+        ensures { Peeks T.cmp self.now.items.now self.now.len result }
     {
         let len = self.len;
         peek(self.items, len)
@@ -100,7 +100,7 @@ impl<'a, T: Ord + Copy> Heap<'a, T> {
     pub fn pop(&mut self) -> Option<T>
         ensures same { self.new.items.ghost_name ≡ self.old.items.ghost_name }
         ensures len { self.new.len ≡ (if is_some result then self.old.len - 1 else self.old.len) }
-        ensures pops { Pops (λ x' y' r'. r' ≡ T.Ord.cmp x' y') self.old.items.now self.old.len result self.new.items.now }
+        ensures pops { Pops T.cmp self.old.items.now self.old.len result self.new.items.now }
     {
         let len = self.len;
         let least = pop(self.items, len)?;
@@ -112,7 +112,7 @@ impl<'a, T: Ord + Copy> Heap<'a, T> {
     pub fn push(&mut self, x: T) -> bool
         ensures same { self.new.items.ghost_name ≡ self.old.items.ghost_name }
         ensures len { self.new.len ≡ (if result then self.old.len + 1 else self.old.len) }
-        ensures pushes { Pushes (λ x' y' r'. r' ≡ T.Ord.cmp x' y') self.old.items.now self.old.len x result self.new.items.now }
+        ensures pushes { Pushes T.cmp self.old.items.now self.old.len x result self.new.items.now }
     {
         let len = self.len;
         if !push(self.items, len, x) {
@@ -126,7 +126,7 @@ impl<'a, T: Ord + Copy> Heap<'a, T> {
     pub fn lower(&mut self, i: usize, x: T) -> bool
         ensures same { self.new.items.ghost_name ≡ self.old.items.ghost_name }
         ensures len { self.new.len ≡ self.old.len }
-        ensures lowers { Lowers (λ x' y' r'. r' ≡ T.Ord.cmp x' y') self.old.items.now self.old.len i x result self.new.items.now }
+        ensures lowers { Lowers T.cmp self.old.items.now self.old.len i x result self.new.items.now }
     {
         let len = self.len;
         lower(self.items, len, i, x)

@@ -6,7 +6,7 @@ ghost use Rattle.heap.specs.Sifted.{LeastChild, Rises, Sinks, Tells};
 // Whether the element at `a` comes before the one at `b`.
 fn before<T: Ord>(items: &[T], a: usize, b: usize) -> bool
     requires { (a < length items.now) × (b < length items.now) }
-    ensures { Tells (λ x' y' r'. r' ≡ T.Ord.cmp x' y') items.now a b result }
+    ensures { Tells T.cmp items.now a b result }
 {
     items[a].cmp(&items[b]).is_lt()
 }
@@ -15,7 +15,7 @@ fn before<T: Ord>(items: &[T], a: usize, b: usize) -> bool
 fn least_child<T: Ord>(items: &[T], parent: usize, len: usize) -> usize
     requires { (2 * parent + 1 < len) × (len ≤ length items.now) }
     ensures child { (result < len) × (parent * 2 + 1 ≤ result) × (result ≤ parent * 2 + 2) }
-    ensures least { LeastChild (λ x' y' r'. r' ≡ T.Ord.cmp x' y') items.now parent result len }
+    ensures least { LeastChild T.cmp items.now parent result len }
 {
     let left = 2 * parent + 1;
     let right = left + 1;
@@ -29,7 +29,7 @@ fn least_child<T: Ord>(items: &[T], parent: usize, len: usize) -> usize
 pub(crate) fn sift_up<T: Ord>(items: &mut [T], from: usize)
     requires { from < length items.old }
     ensures moved { (n : ℕ) → from < n → Moved n items.old items.new }
-    ensures rises { Rises (λ x' y' r'. r' ≡ T.Ord.cmp x' y') items.old from items.new }
+    ensures rises { Rises T.cmp items.old from items.new }
 {
     let mut child = from;
     while child > 0 {
@@ -46,7 +46,7 @@ pub(crate) fn sift_up<T: Ord>(items: &mut [T], from: usize)
 pub(crate) fn sift_down<T: Ord>(items: &mut [T], len: usize)
     requires { len ≤ length items.old }
     ensures moved { (n : ℕ) → len ≤ n → Moved n items.old items.new }
-    ensures sinks { Sinks (λ x' y' r'. r' ≡ T.Ord.cmp x' y') items.old len items.new }
+    ensures sinks { Sinks T.cmp items.old len items.new }
 {
     let mut parent = 0;
     while parent < len / 2 {

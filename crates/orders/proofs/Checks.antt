@@ -6,8 +6,8 @@ use Rattle.network.specs.Networks.{link_list, node_count}
 use Rattle.paths.specs.Pairs.{Digraph}
 use Rattle.paths.proofs.Agree.{cheapest_same, no_pair_same}
 use Rattle.routing.specs.declared.path.Pair.{Pair}
-use Rattle.routing.specs.declared.finding.SearchFault.{SearchFault}
-use Rattle.routing.specs.declared.finding.SearchFault.TheVariants as search
+use Rattle.routing.specs.declared.search.SearchFault.{SearchFault}
+use Rattle.routing.specs.declared.search.SearchFault.TheVariants as search
 use Rattle.routing.specs.Answer.{Answers, link_graph, refusal}
 use Rattle.routing.specs.Found.{Best, allowed, links_of}
 use Rattle.orders.specs.declared.order.Reserve.{Reserve}
@@ -51,7 +51,8 @@ pub best_same : (net : Digraph) (U V : ℕ → Bool) (s t : ℕ) → ((e : ℕ) 
 best_same net U V s t same p B = record {
   cheapest = cheapest_same net U V s t same (links_of p.working) (links_of p.protecting) B.cheapest;
   costs = B.costs;
-  working = B.working;
+  cheaper = B.cheaper;
+  lower = B.lower;
 }
 
 pub quoted_refused : (net : Network) (o : Reserve) (fault : Option Refusal) (f : SearchFault) (r : Result Pair Refusal) → r ≡ Err (from_search f) →

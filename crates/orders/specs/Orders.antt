@@ -61,7 +61,7 @@ unfit nodes o serial =
     (Some HoldTime))))
     (Some NoSuchNode)
 
--- whether so many words and entries are too few to find a pair with
+-- whether so many words and entries are too few for a search
 abbrev pub short : ℕ → ℕ → ℕ → ℕ → Option Refusal
 short nodes links words entries = cond (nat_le (6 * nodes + 2 * links) words && nat_le nodes entries) None (Some ShortBuffer)
 
@@ -74,7 +74,7 @@ or_else (Some f) later = Some f
 abbrev pub room_for : List Link → ℕ → ℕ → Bool
 room_for links amount e = nat_le amount (slice_index_or links e blank).capacity
 
--- what an order is answered where `fault` is what is wrong before a pair is looked for: that, or the best pair over the links with room
+-- what an order is answered where `fault` is what is wrong before any search: that, or the best pair over the links with room
 -- for it, or that there is no pair
 abbrev pub Quoted : Network → Reserve → Option Refusal → Result Pair Refusal → Type 0
 Quoted net o fault (Ok p) =
@@ -88,6 +88,6 @@ Quoted net o fault (Err HoldTime) = fault ≡ Some HoldTime
 Quoted net o fault (Err SerialsUsedUp) = fault ≡ Some SerialsUsedUp
 Quoted net o fault (Err ShortBuffer) = fault ≡ Some ShortBuffer
 
--- what is wrong before a pair is looked for
+-- what is wrong before any search
 abbrev pub fault_of : Network → Reserve → ℕ → ℕ → ℕ → Option Refusal
 fault_of net o serial words entries = or_else (unfit (node_count net) o serial) (short (node_count net) (length (link_list net)) words entries)

@@ -13,7 +13,7 @@ const LONGEST_HOLD: u32 = 86_400;
 
 const LAST_SERIAL: u32 = 268_435_455;
 
-// Whether an order is fit by itself to have a pair looked for.
+// Whether an order is fit to be searched for, by itself.
 fn check(nodes: u8, order: Reserve, serial: u32) -> Result<(), Refusal>
     ensures { MatchResult result (λ _. unfit nodes order serial ≡ None) (λ f. unfit nodes order serial ≡ Some f) }
 {
@@ -48,7 +48,7 @@ fn with_room(links: &[Link], amount: u16) -> [bool; 128]
 }
 
 // The best pair for an order over the links with room for its amount, where `serial` is the next one to give. Nothing is
-// held. The buffers are as in `find_pair`; an order that is refused before that call leaves them as they are.
+// held. The buffers are as in a search for a pair; an order that is refused before the search leaves them as they are.
 pub fn quote(
     network: &Network,
     order: Reserve,

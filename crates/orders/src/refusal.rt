@@ -17,7 +17,7 @@ pub enum Refusal {
     HoldTime,
     // Every serial has been given.
     SerialsUsedUp,
-    // There are too few words or entries to find a pair with.
+    // The search has too few words or entries to work with.
     ShortBuffer,
     // No two paths without a common link have room for the amount.
     NoPair,

@@ -13,7 +13,7 @@ use network::{Fault, Network, extent, read};
 use routing::{NodeKey, Reach};
 use std::alloc::{AllocError, Global};
 
-// What finding a pair in the largest network needs: 6 words a node and 2 a link, and an entry a node.
+// What a search on the largest network needs: 6 words a node and 2 a link, and an entry a node.
 const MOST_WORDS: usize = 448;
 
 const MOST_ENTRIES: usize = 32;

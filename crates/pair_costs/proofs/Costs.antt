@@ -10,7 +10,7 @@ use Rattle.network.specs.Networks.{link_list, node_count}
 use Rattle.paths.specs.Pairs.{CheapestCosts, every}
 use Rattle.paths.proofs.Agree.{cheapest_costs, cheapest_same, no_pair_same}
 use Rattle.routing.specs.declared.path.Pair.{Pair}
-use Rattle.routing.specs.declared.finding.SearchFault.TheVariants.{SameNode, ShortBuffer, NoSuchNode}
+use Rattle.routing.specs.declared.search.SearchFault.TheVariants.{SameNode, ShortBuffer, NoSuchNode}
 use Rattle.routing.specs.Answer.{Answers, link_graph, refusal}
 use Rattle.routing.specs.Found.{allowed, links_of}
 use Rattle.pair_costs.specs.Table.{CostBetween, CostTable}

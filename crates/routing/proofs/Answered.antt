@@ -89,13 +89,11 @@ track_best net U s t a b d C ca cb h =
     record {
       cheapest = C;
       costs = omega (arith, ca, cb);
-      working = record {
-        cheaper = elim h [ inl l ↦ omega (arith, ca, cb) | inr e ↦ omega (arith, ca, cb, e.0) ];
-        lower = λ same. elim h [
-          | inl l ↦ absurd (omega (arith, ca, cb, same))
-          | inr e ↦ elim (cases_eq (get_or p 0 0) (get_or q 0 0)) [ inl z ↦ absurd (ne z) | inr z ↦ omega (arith, e.1, fa, fb) ]
-        ];
-      };
+      cheaper = elim h [ inl l ↦ omega (arith, ca, cb) | inr e ↦ omega (arith, ca, cb, e.0) ];
+      lower = λ same. elim h [
+        | inl l ↦ absurd (omega (arith, ca, cb, same))
+        | inr e ↦ elim (cases_eq (get_or p 0 0) (get_or q 0 0)) [ inl z ↦ absurd (ne z) | inr z ↦ omega (arith, e.1, fa, fb) ]
+      ];
     }
 
 pub ranked_best : (net : Digraph) (U : ℕ → Bool) (s t : ℕ) (one two : Track) → (s ≡ t → ⊥) → Cheapest net U s t (links_of one.path) (links_of two.path) →

@@ -1,6 +1,5 @@
 pub mod Ranks
 pub mod Places
-pub mod Fronts
 pub mod Settles
 pub mod Back
 pub mod Takes

@@ -1,7 +1,8 @@
 -- What a comparison of keys says of their distances.
-use Rattle.std.proofs.Common.{◌≡◌, ℕ, ◌<◌, ◌≤◌, true, false, List, length, get_or, refl, inl, inr, arith, rules}
-use Rattle.heap.specs.Least.{before}
+use Rattle.std.proofs.Common.{◌≡◌, ℕ, ◌<◌, ◌≤◌, true, false, List, length, get_or, sym, refl, ◌∙◌, subst, inl, inr, arith, rules}
+use Rattle.heap.specs.Least.{IsHeap, before}
 use Rattle.heap.specs.Calls.{NotLower}
+use Rattle.heap.proofs.Moves.{any_default}
 use Rattle.routing.specs.Entries.{blank}
 use Rattle.std.specs.Ordering.{is_lt}
 use Rattle.std.proofs.HeapSift.{ranks}
@@ -29,3 +30,17 @@ pub not_lower : (xs : List NodeKey) (n i : ℕ) (x : NodeKey) → i < n → n �
 not_lower xs n i x l m (inl a) = absurd (omega arith)
 not_lower xs n i x l m (inr (inl a)) = absurd (omega arith)
 not_lower xs n i x l m (inr (inr f)) = f key_order blank
+
+-- entries of nodes not reached, in the order of the nodes, are a heap
+pub rows : (a b : ℕ) → a ≤ b → is_lt (key_order.cmp (record { reach = NotReached; node = b }) (record { reach = NotReached; node = a })) ≡ false
+rows a b h = search rules
+
+pub reached_first : (a b x : ℕ) → before key_order (record { reach = At x; node = a }) (record { reach = NotReached; node = b }) ≡ true
+reached_first a b x = search rules
+
+pub fresh_heap : (zs : List NodeKey) → ((k : ℕ) → k < length zs → get_or zs k blank ≡ record { reach = NotReached; node = k }) → IsHeap key_order zs (length zs)
+unfolding IsHeap
+fresh_heap zs f = λ p k d a b l.
+    subst (λ (x : NodeKey). is_lt (key_order.cmp x (get_or zs p d)) ≡ false) (sym (any_default zs k d blank l ∙ f k l))
+    (subst (λ (x : NodeKey). is_lt (key_order.cmp (record { reach = NotReached; node = k }) x) ≡ false) (sym (any_default zs p d blank (omega arith) ∙ f p (omega arith)))
+    (rows p k (omega arith)))

@@ -2,7 +2,7 @@
 use Rattle.std.proofs.Common.{◌≡◌, ℕ, suc, ◌+◌, ◌-◌, ◌*◌, ◌<◌, ◌≤◌, Bool, true, false, cond, eqb, ltb, ◌⊎◌, List, length, get_or, set, sym, refl, ap, ◌∙◌, subst, inl, inr, arith, length-set}
 use Rattle.std.proofs.lemmas.List.{get_or-set_same, get_or-set_other}
 use Rattle.std.proofs.lemmas.Bool.{both_ways, eq-eqb, ne_eqb, lt-ltb, le-ltb, ltb-true, eqb-true, eqb-false, cases_eq, cases_lt, cond-true, cond-false}
-use Rattle.heap.specs.Least.{Moved}
+use Rattle.heap.specs.Least.{IsHeap, Moved, Least}
 use Rattle.heap.proofs.Moves.{rest_at}
 use Rattle.routing.specs.Orders.{key_order, NoFarther}
 use Rattle.routing.specs.declared.key.NodeKey.{NodeKey}
@@ -11,9 +11,9 @@ use Rattle.routing.specs.declared.key.Reach.TheVariants.{At, NotReached}
 use Rattle.paths.specs.Pairs.{Digraph}
 use Rattle.paths.specs.Flow.{Certified}
 use Rattle.graph.specs.Index.{Indexed}
-use Rattle.routing.specs.Entries.{blank, node_at, reach_at, entries_of, place, in_f, usable, pot}
-use Rattle.routing.specs.Settle.{Fit, Front, Leads, Came, Settled, Settling, Nearest, Offered, Stands, Kept, Missed, Severed, Arrived, more, Covered}
-use Rattle.routing.proofs.Fronts.{front_nearest, nearest_behind, nearest_first, nearest_moved, nearest_others, no_distance}
+use Rattle.routing.specs.Entries.{blank, node_at, reach_at, place, in_f, usable, pot}
+use Rattle.routing.specs.Settle.{Fit, Leads, Came, Settled, Settling, Offered, Stands, Kept, Missed, Severed, Arrived, more, Covered}
+use Rattle.routing.proofs.Ranks.{no_farther}
 use Rattle.routing.proofs.Places.{in_order, place_at, entries_moved, entries_set, one_place, below_moved, all_moved}
 
 -- ---- distances
@@ -43,6 +43,10 @@ usable_one states e q = lt-ltb 0 (get_or states e 0) (omega arith)
 
 -- ---- residual arcs
 module _ (net : Digraph) (states pots : List ℕ) where
+  pub leads_within : (e u v x y : ℕ) → Leads net states pots e u v x y → e < net.size
+  leads_within e u v x y (inl f) = f.within
+  leads_within e u v x y (inr b) = b.within
+
   pub leads_later : (e u v x y : ℕ) → Certified net (usable states) (in_f states) (pot pots) → Leads net states pots e u v x y → x ≤ y
   leads_later e u v x y C (inl f) =
       omega (arith, f.sum, C.free e f.within (usable_one states e f.state) (not_used states e f.state), ap (pot pots) f.from, ap (pot pots) f.to)
@@ -178,12 +182,14 @@ module _ (net : Digraph) (states pots : List ℕ) where
   key v y = record { reach = At y; node = v }
 
   module _ (preds : List ℕ) (s : ℕ) (xs : List NodeKey) (len : ℕ) (done : ℕ → Bool) (i v x y e : ℕ) (S : Settled net states pots preds s xs len done)
-      (F : Fit net states pots (length xs)) (below : i < len) (inside : len < length xs)
+      (F : Fit net states pots (length xs)) (below : i < len) (inside : len < length xs) (room : length preds ≡ length xs)
       (node : node_at xs i ≡ v) (here : reach_at xs len ≡ At x) (ld : Leads net states pots e (node_at xs len) v x y)
-      (nearer : NoFarther (At y) (reach_at xs i)) (preds' : List ℕ) (linked : get_or preds' v 0 ≡ e)
-      (others : (k z : ℕ) → k < length xs → reach_at xs k ≡ At z → (node_at xs k ≡ v → ⊥) → get_or preds' (node_at xs k) 0 ≡ get_or preds (node_at xs k) 0) where
+      (nearer : NoFarther (At y) (reach_at xs i)) where
     abbrev ys : List NodeKey
     ys = set xs i (key v y)
+
+    abbrev preds' : List ℕ
+    preds' = set preds v e
 
     long_w : length ys ≡ length xs
     long_w = length-set xs i (key v y)
@@ -204,7 +210,7 @@ module _ (net : Digraph) (states pots : List ℕ) where
       | inr d ↦ subst P (sym (at_k k d)) (g d)
     ]
 
-    came_w : (lo w z : ℕ) → len ≤ lo → get_or preds' w 0 ≡ get_or preds w 0 → Came net states pots preds xs lo w z → Came net states pots preds' ys lo w z
+    came_w : (lo w z : ℕ) → len ≤ lo → (w ≡ v → ⊥) → Came net states pots preds xs lo w z → Came net states pots preds' ys lo w z
     came_w lo w z l d c =
         let after = c.after in
         let fits = c.fits in
@@ -215,7 +221,7 @@ module _ (net : Digraph) (states pots : List ℕ) where
           after = after;
           fits = omega (arith, long_w);
           at = ap (λ k. k.reach) r ∙ c.at;
-          leads = subst (λ a. Leads net states pots a (node_at ys c.j) w c.x z) (sym d)
+          leads = subst (λ a. Leads net states pots a (node_at ys c.j) w c.x z) (sym (get_or-set_other preds v w e 0 d))
               (subst (λ u. Leads net states pots (get_or preds w 0) u w c.x z) (sym (ap (λ k. k.node) r)) c.leads);
         }
 
@@ -228,7 +234,7 @@ module _ (net : Digraph) (states pots : List ℕ) where
           after = omega arith;
           fits = omega (arith, long_w);
           at = ap (λ k. k.reach) r ∙ here;
-          leads = subst (λ a. Leads net states pots a (node_at ys len) v x y) (sym linked)
+          leads = subst (λ a. Leads net states pots a (node_at ys len) v x y) (sym (get_or-set_same preds v e 0 (omega (arith, S.nodes i (omega arith)))))
               (subst (λ u. Leads net states pots e u v x y) (sym (ap (λ k. k.node) r)) ld);
         }
 
@@ -263,9 +269,9 @@ module _ (net : Digraph) (states pots : List ℕ) where
               (subst (λ u. Leads net states pots a u (node_at ys k) x' y') (ap (λ z. z.node) r) d);
           waiting = λ k z kl. each (λ w. (w.node ≡ s → ⊥) → w.reach ≡ At z → Came net states pots preds' ys len w.node z) k
               (λ q ns at. let w : y ≡ z = cc in subst (λ a. Came net states pots preds' ys len v a) w fresh_w)
-              (λ d ns at. came_w len (node_at xs k) z (omega arith) (others k z (omega arith) at (apart k (omega arith) d)) (S.waiting k z kl ns at));
+              (λ d ns at. came_w len (node_at xs k) z (omega arith) (apart k (omega arith) d) (S.waiting k z kl ns at));
           ranked = λ k z lk kn. subst (λ w. (w.node ≡ s → ⊥) → w.reach ≡ At z → Came net states pots preds' ys (suc k) w.node z) (sym (at_k k (omega arith)))
-              (λ ns at. came_w (suc k) (node_at xs k) z (omega arith) (others k z (omega arith) at (apart k (omega arith) (omega arith))) (S.ranked k z lk (omega arith) ns at));
+              (λ ns at. came_w (suc k) (node_at xs k) z (omega arith) (apart k (omega arith) (omega arith)) (S.ranked k z lk (omega arith) ns at));
           near = λ k z kl. each (λ w. w.reach ≡ At z → z + pot pots w.node ≤ pot pots s + 65535 * (length ys - len)) k
               (λ q at. let w : y ≡ z = cc in omega (arith, leads_short e (node_at xs len) v x y (length xs) F ld, S.close len x (omega arith) inside here))
               (λ d at. omega (arith, S.near k z kl at));
@@ -290,48 +296,37 @@ module _ (net : Digraph) (states pots : List ℕ) where
             (subst (λ r. NoFarther r (At z)) (sym here) (leads_later e (node_at xs len) (node_at xs k) x z C d))
       ]
 
-  pub offered : (preds preds' dists dists' : List ℕ) (s : ℕ) (xs ys : List NodeKey) (h h' len : ℕ) (done : ℕ → Bool) (e v x y : ℕ) → Settling net states pots preds dists s xs h len done →
-      Fit net states pots (length xs) → len < length xs → reach_at xs len ≡ At x →
-      Leads net states pots e (node_at xs len) v x y → Front preds' dists' ys h' len → Offered xs preds len v y e ys preds' →
-      Settling net states pots preds' dists' s ys h' len (more done e)
-  offered preds preds' dists dists' s xs ys h h' len done e v x y S F inside here ld front (inl p) = record {
-    front = front;
-    settled = subst (λ (q : List ℕ). Settled net states pots q s ys len (more done e)) (sym p.linked) (subst (λ (q : List NodeKey). Settled net states pots preds s q len (more done e)) (sym p.entries)
-        (skips preds s xs len done e x S.settled here (near_all preds s xs len done e v x y S.settled F.certified inside here ld p.near)));
-  }
-  offered preds preds' dists dists' s xs ys h h' len done e v x y S F inside here ld front (inr p) =
+  pub offered : (preds preds' : List ℕ) (s : ℕ) (xs ys : List NodeKey) (len : ℕ) (done : ℕ → Bool) (e v x y : ℕ) → Settling net states pots preds s xs len done →
+      Fit net states pots (length xs) → len < length xs → length preds ≡ length xs → reach_at xs len ≡ At x →
+      Leads net states pots e (node_at xs len) v x y → Offered xs preds len v y e ys preds' →
+      Settling net states pots preds' s ys len (more done e)
+  offered preds preds' s xs ys len done e v x y S F inside room here ld (inl p) =
+      subst (λ (q : List ℕ). Settling net states pots q s ys len (more done e)) (sym p.linked) (subst (λ (q : List NodeKey). Settling net states pots preds s q len (more done e)) (sym p.entries) (record {
+        heap = S.heap;
+        settled = skips preds s xs len done e x S.settled here (near_all preds s xs len done e v x y S.settled F.certified inside here ld p.near);
+      }))
+  offered preds preds' s xs ys len done e v x y S F inside room here ld (inr p) =
       let below = p.below in
       let i = p.i in
-      let ms = p.mid in
-      let long = p.between.len in
-      let T : Settled net states pots preds s ms len done = shuffled preds s xs ms len done S.settled p.between in
-      let G : Fit net states pots (length ms) = subst (Fit net states pots) (sym long) F in
-      let r₀ : get_or ms len blank ≡ get_or xs len blank = rest_at len xs ms p.between len blank (omega arith) in
-      let here₀ : reach_at ms len ≡ At x = ap (λ z. z.reach) r₀ ∙ here in
-      let ld₀ : Leads net states pots e (node_at ms len) v x y = subst (λ u. Leads net states pots e u v x y) (sym (ap (λ z. z.node) r₀)) ld in
-      let zs : List NodeKey = set ms i (key v y) in
-      let same : length zs ≡ length ms = length-set ms i (key v y) in
-      let r : get_or zs len blank ≡ get_or ms len blank = get_or-set_other ms i len (key v y) blank (omega arith) in
-      let here' : reach_at zs len ≡ At x = ap (λ z. z.reach) r ∙ here₀ in
-      let ld' : Leads net states pots e (node_at zs len) v x y = subst (λ u. Leads net states pots e u v x y) (sym (ap (λ z. z.node) r)) ld₀ in
-      let W : Settled net states pots preds' s zs len done = improves preds s ms len done i v x y e T G below (omega arith) p.node here₀ ld₀ p.nearer preds' p.linked p.others in
-      let N = near_all preds' s zs len done e v x y W F.certified (omega arith) here' ld' (improved_near preds s ms len done i v x y e T G below (omega arith) p.node here₀ ld₀ p.nearer preds' p.linked p.others) in
-      record {
-        front = front;
-        settled = shuffled preds' s zs ys len (more done e) (skips preds' s zs len done e x W here' N) p.moved;
-      }
+      let zs : List NodeKey = set xs i (key v y) in
+      let same : length zs ≡ length xs = length-set xs i (key v y) in
+      let r : get_or zs len blank ≡ get_or xs len blank = get_or-set_other xs i len (key v y) blank (omega arith) in
+      let here' : reach_at zs len ≡ At x = ap (λ z. z.reach) r ∙ here in
+      let ld' : Leads net states pots e (node_at zs len) v x y = subst (λ u. Leads net states pots e u v x y) (sym (ap (λ z. z.node) r)) ld in
+      let W : Settled net states pots (set preds v e) s zs len done = improves preds s xs len done i v x y e S.settled F below inside room p.node here ld p.nearer in
+      let N = near_all (set preds v e) s zs len done e v x y W F.certified (omega arith) here' ld' (improved_near preds s xs len done i v x y e S.settled F below inside room p.node here ld p.nearer) in
+      subst (λ (q : List ℕ). Settling net states pots q s ys len (more done e)) (sym p.linked) (record {
+        heap = p.heap S.heap;
+        settled = shuffled (set preds v e) s zs ys len (more done e) (skips (set preds v e) s zs len done e x W here' N) p.moved;
+      })
 
   -- ---- 6. one arc
-  pub kept_offered : (preds preds' : List ℕ) (xs ys : List NodeKey) (len w y e : ℕ) → Offered xs preds len w y e ys preds' → Kept xs ys len
-  kept_offered preds preds' xs ys len w y e (inl p) = λ k l. ap (λ (q : List NodeKey). get_or q k blank) p.entries
-  kept_offered preds preds' xs ys len w y e (inr p) = λ k l.
+  pub stands_offered : (preds preds' : List ℕ) (xs ys : List NodeKey) (len v x w y e : ℕ) → Stands xs len v x → Offered xs preds len w y e ys preds' → Stands ys len v x
+  stands_offered preds preds' xs ys len v x w y e s (inl p) = subst (λ (q : List NodeKey). Stands q len v x) (sym p.entries) s
+  stands_offered preds preds' xs ys len v x w y e s (inr p) =
       let below = p.below in
-      rest_at len (set p.mid p.i (key w y)) ys p.moved k blank l ∙ get_or-set_other p.mid p.i k (key w y) blank (omega arith) ∙ rest_at len xs p.mid p.between k blank l
-
-  pub stands_kept : (xs ys : List NodeKey) (len v x : ℕ) → Stands xs len v x → Kept xs ys len → Stands ys len v x
-  stands_kept xs ys len v x h K =
-      let r : get_or ys len blank ≡ get_or xs len blank = K len (omega arith) in
-      record { at = ap (λ z. z.reach) r ∙ h.at; of = ap (λ z. z.node) r ∙ h.of }
+      let r : get_or ys len blank ≡ get_or xs len blank = rest_at len (set xs p.i (key w y)) ys p.moved len blank (omega arith) ∙ get_or-set_other xs p.i len (key w y) blank (omega arith) in
+      record { at = ap (λ z. z.reach) r ∙ s.at; of = ap (λ z. z.node) r ∙ s.of }
 
   module _ (n : ℕ) (F : Fit net states pots n) (e u v x : ℕ) (within : e < net.size) where
     pub forth_room : get_or states e 0 ≡ 1 → pot pots (net.head e) ≤ net.weight e + pot pots (net.tail e)
@@ -358,91 +353,74 @@ module _ (net : Digraph) (states pots : List ℕ) where
     out_not a b w y (inl f) = a f.state
     out_not a b w y (inr g) = b g.state
 
-  pub passes : (preds dists : List ℕ) (s : ℕ) (xs : List NodeKey) (h len : ℕ) (done : ℕ → Bool) (e v x : ℕ) → Settling net states pots preds dists s xs h len done → Stands xs len v x →
-      ((w y : ℕ) → Leads net states pots e (node_at xs len) w x y → ⊥) → Settling net states pots preds dists s xs h len (more done e)
-  passes preds dists s xs h len done e v x S here none = record {
-    front = S.front;
-    settled = skips preds s xs len done e x S.settled here.at (λ k y l d. absurd (none (node_at xs k) y d));
+  pub passes : (preds : List ℕ) (s : ℕ) (xs : List NodeKey) (len : ℕ) (done : ℕ → Bool) (e v x : ℕ) → Settling net states pots preds s xs len done → Stands xs len v x →
+      ((w y : ℕ) → Leads net states pots e (node_at xs len) w x y → ⊥) → Settling net states pots preds s xs len (more done e)
+  passes preds s xs len done e v x S h none = record {
+    heap = S.heap;
+    settled = skips preds s xs len done e x S.settled h.at (λ k y l d. absurd (none (node_at xs k) y d));
   }
 
   -- the distance of the entry at len, with room for one arc more
-  pub short : (preds : List ℕ) (s : ℕ) (xs : List NodeKey) (len : ℕ) (done : ℕ → Bool) (v x : ℕ) → Settled net states pots preds s xs len done → Fit net states pots (length xs) → s < length xs → len < length xs → Stands xs len v x →
+  pub short : (preds : List ℕ) (s : ℕ) (xs : List NodeKey) (len : ℕ) (done : ℕ → Bool) (v x : ℕ) → Settling net states pots preds s xs len done → Fit net states pots (length xs) → s < length xs → len < length xs → Stands xs len v x →
       x + pot pots v ≤ 1075838976
   short preds s xs len done v x S F ls l h =
-      omega (arith, S.close len x (omega arith) l h.at, ap (pot pots) h.of, F.low s ls, F.small)
+      omega (arith, S.settled.close len x (omega arith) l h.at, ap (pot pots) h.of, F.low s ls, F.small)
+
+  pub kept_offered : (preds preds' : List ℕ) (xs ys : List NodeKey) (len w y e : ℕ) → Offered xs preds len w y e ys preds' → Kept xs ys len
+  kept_offered preds preds' xs ys len w y e (inl p) = λ k l. ap (λ (q : List NodeKey). get_or q k blank) p.entries
+  kept_offered preds preds' xs ys len w y e (inr p) = λ k l.
+      let below = p.below in
+      rest_at len (set xs p.i (key w y)) ys p.moved k blank l ∙ get_or-set_other xs p.i k (key w y) blank (omega arith)
 
   -- ---- 7. the start: each node has its entry, and s alone is reached
-  pub started : (s : ℕ) (xs : List NodeKey) → s < length xs → ((k : ℕ) → k < length xs → node_at xs k < length xs) → ((v : ℕ) → v < length xs → entries_of v xs ≡ 1) →
-      ((k : ℕ) → k < length xs → node_at xs k ≡ s → reach_at xs k ≡ At 0) → ((k : ℕ) → k < length xs → (node_at xs k ≡ s → ⊥) → reach_at xs k ≡ NotReached) →
-      (preds : List ℕ) (done : ℕ → Bool) → Settled net states pots preds s xs (length xs) done
-  started s xs within nodes once start others preds done = record {
-    fits = omega arith;
-    nodes = nodes;
-    once = once;
-    start = start;
-    order = λ i k le lk kn. absurd (omega arith);
-    finished = λ k lk kn. absurd (omega arith);
-    relaxed = λ j e k x y lj jn dn kn at ld. absurd (omega arith);
-    waiting = λ k y kl ns at. absurd (no_distance y (sym at ∙ others k kl ns));
-    ranked = λ k y lk kn ns at. absurd (omega arith);
-    near = λ k y kl at. elim (cases_eq (node_at xs k) s) [
-      | inl q ↦ (let z : At 0 ≡ At y = sym (start k kl q) ∙ at in
-          let w : 0 ≡ y = cc in
-          omega (arith, ap (pot pots) q))
-      | inr d ↦ absurd (no_distance y (sym at ∙ others k kl d))
-    ];
-    close = λ k y lk kn at. absurd (omega arith);
-  }
+  module _ (s : ℕ) (zs : List NodeKey) (within : s < length zs) (fresh : (k : ℕ) → k < length zs → get_or zs k blank ≡ record { reach = NotReached; node = k }) where
+    abbrev ws : List NodeKey
+    ws = set zs s (key s 0)
 
-  -- ---- 8. what preds has of nodes that are not reached does not matter
-  pub relinked : (preds preds' : List ℕ) (s : ℕ) (xs : List NodeKey) (len : ℕ) (done : ℕ → Bool) → ((k x : ℕ) → k < length xs → reach_at xs k ≡ At x → get_or preds' (node_at xs k) 0 ≡ get_or preds (node_at xs k) 0) →
-      Settled net states pots preds s xs len done → Settled net states pots preds' s xs len done
-  relinked preds preds' s xs len done same S = record {
-    fits = S.fits;
-    nodes = S.nodes;
-    once = S.once;
-    start = S.start;
-    order = S.order;
-    finished = S.finished;
-    relaxed = S.relaxed;
-    waiting = λ k y kl ns at. came len k y (omega (arith, S.fits)) at (S.waiting k y kl ns at);
-    ranked = λ k y lk kn ns at. came (suc k) k y kn at (S.ranked k y lk kn ns at);
-    near = S.near;
-    close = S.close;
-  }
-    where
-      came : (lo k y : ℕ) → k < length xs → reach_at xs k ≡ At y → Came net states pots preds xs lo (node_at xs k) y → Came net states pots preds' xs lo (node_at xs k) y
-      came lo k y l at c = record {
-        j = c.j;
-        x = c.x;
-        after = c.after;
-        fits = c.fits;
-        at = c.at;
-        leads = subst (λ a. Leads net states pots a (node_at xs c.j) (node_at xs k) c.x y) (sym (same k y l at)) c.leads;
-      }
+    long_s : length ws ≡ length zs
+    long_s = length-set zs s (key s 0)
 
-  -- ---- 9. the nearest entry leaves the heap
-  module _ (preds preds' dists : List ℕ) (s : ℕ) (xs ys : List NodeKey) (h len : ℕ) (r : NodeKey) (S : Settling net states pots preds dists s xs h len (λ _. true)) (N : Nearest preds xs h len r preds' ys) where
-    m : Moved len xs ys
-    m = nearest_moved preds dists xs h len r preds' ys S.front S.settled.fits N S.settled.nodes S.settled.once
+    each_s : (P : NodeKey → Type 0) (k : ℕ) → k < length ws → (k ≡ s → P (key s 0)) → ((k ≡ s → ⊥) → P (record { reach = NotReached; node = k })) → P (get_or ws k blank)
+    each_s P k l f g = elim (cases_eq k s) [
+      | inl q ↦ subst P (sym (ap (λ a. get_or ws a blank) q ∙ get_or-set_same zs s (key s 0) blank within)) (f q)
+      | inr d ↦ subst P (sym (get_or-set_other zs s k (key s 0) blank d ∙ fresh k (omega (arith, long_s)))) (g d)
+    ]
 
-    is : get_or ys (len - 1) blank ≡ r
-    is = nearest_behind preds dists xs h len r preds' ys S.front S.settled.fits N S.settled.nodes S.settled.once
+    unreached : (x : ℕ) → NotReached ≡ At x → ⊥
+    unreached x q = let z : ◌≡◌ {A = ℕ} 0 1 = cc in omega arith
 
+    pub started : (preds : List ℕ) (done : ℕ → Bool) → Settled net states pots preds s ws (length zs) done
+    started preds done =
+        let same = long_s in
+        record {
+          fits = omega arith;
+          nodes = λ k l. each_s (λ z. z.node < length ws) k l (λ q. omega arith) (λ d. omega arith);
+          once = λ v l. entries_set v s zs (key s 0) within (ap (λ z. z.node) (fresh s within))
+              ∙ in_order zs 0 v (λ k l. ap (λ z. z.node) (fresh k l) ∙ omega arith) (omega arith) (omega arith);
+          start = λ k l. each_s (λ z. z.node ≡ s → z.reach ≡ At 0) k l (λ _ _. refl) (λ d q. absurd (d q));
+          order = λ i k le lk kn. absurd (omega arith);
+          finished = λ k lk kn. absurd (omega arith);
+          relaxed = λ j e k x y lj jn dn kn at ld. absurd (omega arith);
+          waiting = λ k y kl. each_s (λ z. (z.node ≡ s → ⊥) → z.reach ≡ At y → Came net states pots preds ws (length zs) z.node y) k (omega arith)
+              (λ q ns at. absurd (ns refl)) (λ d ns at. absurd (unreached y at));
+          ranked = λ k y lk kn ns at. absurd (omega arith);
+          near = λ k y kl. each_s (λ z. z.reach ≡ At y → y + pot pots z.node ≤ pot pots s + 65535 * (length ws - length zs)) k (omega arith)
+              (λ q at. let w : 0 ≡ y = cc in omega arith) (λ d at. absurd (unreached y at));
+          close = λ k y lk kn at. absurd (omega arith);
+        }
+
+  -- ---- 8. the nearest entry leaves the heap
+  module _ (preds : List ℕ) (s : ℕ) (xs ys : List NodeKey) (len : ℕ) (r : NodeKey) (S : Settling net states pots preds s xs len (λ _. true)) (some : 0 < len)
+      (m : Moved len xs ys) (is : get_or ys (len - 1) blank ≡ r) (least : Least key_order r xs len) where
     first : (i : ℕ) → i < len → NoFarther r.reach (reach_at ys i)
-    first = below_moved (λ z. NoFarther r.reach z.reach) len xs ys S.settled.fits m (nearest_first preds dists xs h len r preds' ys S.front S.settled.fits N S.settled.nodes S.settled.once)
+    first = below_moved (λ z. NoFarther r.reach z.reach) len xs ys S.settled.fits m (λ i l. no_farther r (get_or xs i blank) (least i blank l))
 
-    pub some_left : 0 < len
-    some_left = omega (arith, S.front.inside, N.popped.top.some)
-
-    pub popped : (x : ℕ) → r.reach ≡ At x → Settling net states pots preds' dists s ys (h - 1) (len - 1) (λ _. false) × Stands ys (len - 1) r.node x
-    popped x at =
-        let q : reach_at ys (len - 1) ≡ r.reach = ap (λ z. z.reach) is in
-        let some = some_left in
-        let R = relinked preds preds' s xs len (λ _. true) (nearest_others preds dists xs h len r preds' ys S.front S.settled.fits N S.settled.nodes S.settled.once) S.settled in (
+    pub popped : (x : ℕ) → r.reach ≡ At x → IsHeap key_order ys (len - 1) → Settling net states pots preds s ys (len - 1) (λ _. false) × Stands ys (len - 1) r.node x
+    popped x at h =
+        let q : reach_at ys (len - 1) ≡ r.reach = ap (λ z. z.reach) is in (
           record {
-            front = front_nearest preds dists xs h len r preds' ys S.front S.settled.fits N S.settled.nodes S.settled.once;
-            settled = finishes preds' s ys len (len - 1) x (omega arith) (shuffled preds' s xs ys len (λ _. true) R m) (q ∙ at) (λ i l. subst (λ a. NoFarther a (reach_at ys i)) (sym q) (first i l));
+            heap = h;
+            settled = finishes preds s ys len (len - 1) x (omega arith) (shuffled preds s xs ys len (λ _. true) S.settled m) (q ∙ at) (λ i l. subst (λ a. NoFarther a (reach_at ys i)) (sym q) (first i l));
           },
           record { at = q ∙ at; of = ap (λ z. z.node) is },
         )
@@ -453,10 +431,17 @@ module _ (net : Digraph) (states pots : List ℕ) where
       | inr e ↦ M k (omega arith) (omega (arith, m.len)) (sym (ap (λ z. z.node) (rest_at len xs ys m k blank (omega arith))) ∙ q)
     ]
 
+    pub unreached_rest : r.reach ≡ NotReached → (t : ℕ) → Missed xs len t → Settled net states pots preds s ys len (λ _. true) × ((i : ℕ) → i < len → NoFarther NotReached (reach_at ys i)) × Missed ys len t
+    unreached_rest at t M = (
+      shuffled preds s xs ys len (λ _. true) S.settled m,
+      λ i l. subst (λ a. NoFarther a (reach_at ys i)) at (first i l),
+      λ k l kn q. M k l (omega (arith, m.len)) (sym (ap (λ z. z.node) (rest_at len xs ys m k blank l)) ∙ q),
+    )
+
   pub missed_kept : (xs ys : List NodeKey) (len t : ℕ) → Kept xs ys len → length ys ≡ length xs → Missed xs len t → Missed ys len t
   missed_kept xs ys len t K e M k l kn q = M k l (omega arith) (sym (ap (λ z. z.node) (K k l)) ∙ q)
 
-  -- ---- 10. nothing more is reached
+  -- ---- 9. nothing more is reached
   module _ (preds : List ℕ) (s t : ℕ) (xs : List NodeKey) (len : ℕ) (S : Settled net states pots preds s xs len (λ _. true)) (F : Fit net states pots (length xs))
       (ls : s < length xs) (lt : t < length xs) (none : (i : ℕ) → i < len → NoFarther NotReached (reach_at xs i)) (M : Missed xs len t) where
     abbrev seen : ℕ → Bool
@@ -514,26 +499,26 @@ module _ (net : Digraph) (states pots : List ℕ) where
       },
     )
 
-  -- ---- 11. t is finished
-  pub arrived : (preds : List ℕ) (s t v : ℕ) (xs : List NodeKey) (len far : ℕ) → Settled net states pots preds s xs len (λ _. false) → Stands xs len v far → v ≡ t →
+  -- ---- 10. t is finished
+  pub arrived : (preds : List ℕ) (s t v : ℕ) (xs : List NodeKey) (len far : ℕ) → Settling net states pots preds s xs len (λ _. false) → Stands xs len v far → v ≡ t →
       Fit net states pots (length xs) → s < length xs → len < length xs → Arrived net states pots preds s t xs len far
   arrived preds s t v xs len far S h q F ls l =
       let h' : Stands xs len t far = record { at = h.at; of = h.of ∙ q } in
       record {
         inside = l;
         stands = h';
-        settled = S;
-        short = omega (arith, S.close len far (omega arith) l h.at, ap (pot pots) h'.of, F.small);
+        settled = S.settled;
+        short = omega (arith, S.settled.close len far (omega arith) l h.at, ap (pot pots) h'.of, F.small);
       }
 
-  -- ---- 12. all arcs of the entry at len
-  pub covers_none : (preds dists : List ℕ) (s : ℕ) (xs : List NodeKey) (h len : ℕ) (order : List ℕ) (lo : ℕ) (done : ℕ → Bool) → Settling net states pots preds dists s xs h len done → Covered net states pots preds dists s xs h len order lo lo done
-  covers_none preds dists s xs h len order lo done S = record { now_done = done; settling = S; keeps = λ i h. h; covers = λ p a b. absurd (omega arith) }
+  -- ---- 11. all arcs of the entry at len
+  pub covers_none : (preds : List ℕ) (s : ℕ) (xs : List NodeKey) (len : ℕ) (order : List ℕ) (lo : ℕ) (done : ℕ → Bool) → Settling net states pots preds s xs len done → Covered net states pots preds s xs len order lo lo done
+  covers_none preds s xs len order lo done S = record { now_done = done; settling = S; keeps = λ i h. h; covers = λ p a b. absurd (omega arith) }
 
-  pub covers_more : (preds preds' dists dists' : List ℕ) (s : ℕ) (xs ys : List NodeKey) (h h' len : ℕ) (order : List ℕ) (lo k : ℕ) (done : ℕ → Bool) (C : Covered net states pots preds dists s xs h len order lo k done) →
-      (Settling net states pots preds dists s xs h len C.now_done → Settling net states pots preds' dists' s ys h' len (more C.now_done (get_or order k 0))) →
-      Covered net states pots preds' dists' s ys h' len order lo (k + 1) done
-  covers_more preds preds' dists dists' s xs ys h h' len order lo k done C f = record {
+  pub covers_more : (preds preds' : List ℕ) (s : ℕ) (xs ys : List NodeKey) (len : ℕ) (order : List ℕ) (lo k : ℕ) (done : ℕ → Bool) (C : Covered net states pots preds s xs len order lo k done) →
+      (Settling net states pots preds s xs len C.now_done → Settling net states pots preds' s ys len (more C.now_done (get_or order k 0))) →
+      Covered net states pots preds' s ys len order lo (k + 1) done
+  covers_more preds preds' s xs ys len order lo k done C f = record {
     now_done = more C.now_done (get_or order k 0);
     settling = f C.settling;
     keeps = λ i h. kept i (C.keeps i h);
@@ -550,15 +535,15 @@ module _ (net : Digraph) (states pots : List ℕ) where
           go true h = refl
           go false h = h
 
-  pub spreads : (preds dists : List ℕ) (s : ℕ) (xs : List NodeKey) (h len v x : ℕ) (done : ℕ → Bool) (first order first' order' : List ℕ) → Settling net states pots preds dists s xs h len done → Stands xs len v x →
+  pub spreads : (preds : List ℕ) (s : ℕ) (xs : List NodeKey) (len v x : ℕ) (done : ℕ → Bool) (first order first' order' : List ℕ) → Settling net states pots preds s xs len done → Stands xs len v x →
       Indexed net.size net.tail first order (length xs) → Indexed net.size net.head first' order' (length xs) →
       ((p : ℕ) → get_or first v 0 ≤ p → p < get_or first (v + 1) 0 → done (get_or order p 0) ≡ true) →
       ((p : ℕ) → get_or first' v 0 ≤ p → p < get_or first' (v + 1) 0 → done (get_or order' p 0) ≡ true) →
-      Settling net states pots preds dists s xs h len (λ _. true)
-  spreads preds dists s xs h len v x done first order first' order' T here I J f g =
+      Settling net states pots preds s xs len (λ _. true)
+  spreads preds s xs len v x done first order first' order' T h I J f g =
       let S = T.settled in
       record {
-        front = T.front;
+        heap = T.heap;
         settled = record {
           fits = S.fits;
           nodes = S.nodes;
@@ -577,9 +562,9 @@ module _ (net : Digraph) (states pots : List ℕ) where
       all : (e k j x' y : ℕ) → j ≡ len → Leads net states pots e (node_at xs j) (node_at xs k) x' y → done e ≡ true
       all e k j x' y q (inl d) =
           let l = I.listed e d.within in
-          let w : net.tail e ≡ v = d.from ∙ ap (node_at xs) q ∙ here.of in
+          let w : net.tail e ≡ v = d.from ∙ ap (node_at xs) q ∙ h.of in
           ap done (sym l.3) ∙ f l.0 (omega (arith, l.1, ap (λ a. get_or first a 0) w)) (omega (arith, l.2, ap (λ a. get_or first (a + 1) 0) w))
       all e k j x' y q (inr d) =
           let l = J.listed e d.within in
-          let w : net.head e ≡ v = d.from ∙ ap (node_at xs) q ∙ here.of in
+          let w : net.head e ≡ v = d.from ∙ ap (node_at xs) q ∙ h.of in
           ap done (sym l.3) ∙ g l.0 (omega (arith, l.1, ap (λ a. get_or first' a 0) w)) (omega (arith, l.2, ap (λ a. get_or first' (a + 1) 0) w))

@@ -1,4 +1,4 @@
--- What `find_pair` answers, for every network, choice of usable links, two nodes and buffers.
+-- What the search for a pair answers, for every network, choice of usable links, two nodes and buffers.
 use Rattle.std.specs.Prelude.{◌≡◌, ℕ, ◌+◌, ◌*◌, Bool, cond, ◌&&◌, List, length, Some, None, Ok, Err, Option, Result, ◌==◌, nat_le, nat_lt, slice_index_or}
 use Rattle.network.specs.declared.link.Link.{Link}
 use Rattle.network.specs.declared.network.Network.{Network}
@@ -8,8 +8,8 @@ use Rattle.paths.specs.Pairs.{Digraph, NoPair}
 use Rattle.routing.specs.declared.key.NodeKey.{NodeKey}
 use Rattle.routing.specs.declared.key.Reach.TheVariants.{NotReached}
 use Rattle.routing.specs.declared.path.Pair.{Pair}
-use Rattle.routing.specs.declared.finding.SearchFault.{SearchFault}
-use Rattle.routing.specs.declared.finding.SearchFault.TheVariants.{NoSuchNode, SameNode, ShortBuffer}
+use Rattle.routing.specs.declared.search.SearchFault.{SearchFault}
+use Rattle.routing.specs.declared.search.SearchFault.TheVariants.{NoSuchNode, SameNode, ShortBuffer}
 use Rattle.routing.specs.Found.{Best}
 
 -- links as the arcs of a graph: a link leads from its tail to its head and weighs its cost
@@ -21,7 +21,7 @@ link_graph links = record {
   weight = λ e. (slice_index_or links e no_link).cost;
 }
 
--- why no pair is looked for, the first that applies; buffers are measured by how many words and entries they have
+-- why there is no search, the first that applies; buffers are measured by how many words and entries they have
 abbrev pub refusal : ℕ → ℕ → ℕ → ℕ → ℕ → ℕ → Option SearchFault
 refusal nodes links s t words entries =
     cond (nat_lt s nodes && nat_lt t nodes)
@@ -37,6 +37,6 @@ Answers net usable s t words entries (Ok None) =
 Answers net usable s t words entries (Ok (Some p)) =
     (refusal (node_count net) (length (link_list net)) s t words entries ≡ None) × Best (link_graph (link_list net)) usable s t p
 
--- an entry as `find_pair` leaves it
+-- an entry as the search leaves it
 abbrev pub no_entry : NodeKey
 no_entry = record { reach = NotReached; node = 0 }

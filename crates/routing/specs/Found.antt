@@ -1,6 +1,6 @@
--- What is found.
-use Rattle.std.specs.Prelude.{◌≡◌, ℕ, ◌+◌, Bool, false, cond, List, take, ◌==◌, nat_lt, slice_index, slice_index_or}
-use Rattle.paths.specs.Pairs.{Digraph, Cheapest, Working, cost as cost_of}
+-- What a search answers with.
+use Rattle.std.specs.Prelude.{◌≡◌, ℕ, ◌+◌, ◌<◌, ◌≤◌, Bool, false, cond, List, take, ◌==◌, nat_lt, slice_index, slice_index_or}
+use Rattle.paths.specs.Pairs.{Digraph, Cheapest, cost as cost_of}
 use Rattle.routing.specs.declared.path.Pair.{Pair}
 use Rattle.routing.specs.declared.path.Path.{Path}
 use Rattle.routing.specs.declared.extract.Track.{Track}
@@ -13,11 +13,12 @@ links_of p = take p.len p.links
 abbrev pub allowed : List Bool → ℕ → Bool
 allowed flags e = slice_index_or flags e false
 
--- a cheapest pair with its cost, its paths told apart as working and protecting
+-- a cheapest pair with its cost: the working path is the cheaper, at equal cost the one whose first link has the lower number
 pub record Best (net : Digraph) (usable : ℕ → Bool) (s t : ℕ) (p : Pair) : Type 0 where
   pub cheapest : Cheapest net usable s t (links_of p.working) (links_of p.protecting)
   pub costs : p.cost ≡ cost_of net (links_of p.working) + cost_of net (links_of p.protecting)
-  pub working : Working net (links_of p.working) (links_of p.protecting)
+  pub cheaper : cost_of net (links_of p.working) ≤ cost_of net (links_of p.protecting)
+  pub lower : cost_of net (links_of p.working) ≡ cost_of net (links_of p.protecting) → slice_index (links_of p.working) 0 < slice_index (links_of p.protecting) 0
 
 -- a goes before b: it is cheaper, or at equal cost its first link has the lower number
 abbrev pub precedes : Track → Track → Bool

@@ -1,11 +1,8 @@
--- What one round keeps true.
-use Rattle.std.specs.Prelude.{◌≡◌, ℕ, suc, ◌+◌, ◌-◌, ◌*◌, ◌<◌, ◌≤◌, Bool, true, false, cond, ◌⊎◌, List, length, get_or, ◌==◌, ◌≢◌, nat_lt, slice_index, slice_index_or, slice_set}
+-- What one round of the search keeps true.
+use Rattle.std.specs.Prelude.{◌≡◌, ℕ, suc, ◌+◌, ◌-◌, ◌*◌, ◌<◌, ◌≤◌, Bool, true, false, cond, ◌⊎◌, List, length, get_or, ◌==◌, ◌≢◌, slice_index, slice_index_or, slice_set}
 use Rattle.routing.specs.Orders.{key_order, NoFarther}
 use Rattle.routing.specs.declared.key.NodeKey.{NodeKey}
-use Rattle.routing.specs.declared.key.Reach.{Reach}
-use Rattle.routing.specs.declared.key.Reach.TheVariants.{At, NotReached}
-use Rattle.routing.specs.contracts.key.NodeKeyOrd.TheImpl as node_key
-use Rattle.heap.specs.Calls.{Popped}
+use Rattle.routing.specs.declared.key.Reach.TheVariants.{At}
 use Rattle.heap.specs.Least.{IsHeap, Moved}
 use Rattle.paths.specs.Pairs.{Digraph}
 use Rattle.paths.specs.Flow.{Certified, Closed}
@@ -67,62 +64,16 @@ pub record Settled (net : Digraph) (states pots preds : List ℕ) (s : ℕ) (xs 
   pub near : (k y : ℕ) → k < len → reach_at xs k ≡ At y → y + pot pots (node_at xs k) ≤ pot pots s + 65535 * (length xs - len)
   pub close : (k y : ℕ) → len ≤ k → k < length xs → reach_at xs k ≡ At y → y + pot pots (node_at xs k) ≤ pot pots s + 65535 * (length xs - suc k)
 
--- the word of a distance; that of "not reached" is above every distance
-abbrev pub word_of : Reach → ℕ
-word_of (At x) = x
-word_of NotReached = 4294967295
-
--- the word of the entry's node is that of its distance
-pub record Told (dists : List ℕ) (x : NodeKey) : Type 0 where
-  pub is : get_or dists x.node 0 ≡ word_of x.reach
-  pub finite : (d : ℕ) → x.reach ≡ At d → d < 4294967295
-
--- of the first len entries the first h are reached and a heap; the others wait: they are not reached, and preds has their places.
--- dists has each node's distance
-pub record Front (preds dists : List ℕ) (xs : List NodeKey) (h len : ℕ) : Type 0 where
-  pub inside : h ≤ len
-  pub linked : length preds ≡ length xs
-  pub long : length dists ≡ length xs
-  pub heap : IsHeap key_order xs h
-  pub reached : (k : ℕ) → k < h → reach_at xs k ≢ NotReached
-  pub finished : (k : ℕ) → len ≤ k → k < length xs → reach_at xs k ≢ NotReached
-  pub waiting : (k : ℕ) → h ≤ k → k < len → reach_at xs k ≡ NotReached
-  pub placed : (k : ℕ) → h ≤ k → k < len → slice_index preds (node_at xs k) ≡ k
-  pub told : (k : ℕ) → k < length xs → Told dists (slice_index_or xs k blank)
-
-pub record Settling (net : Digraph) (states pots preds dists : List ℕ) (s : ℕ) (xs : List NodeKey) (h len : ℕ) (done : ℕ → Bool) : Type 0 where
-  pub front : Front preds dists xs h len
+pub record Settling (net : Digraph) (states pots preds : List ℕ) (s : ℕ) (xs : List NodeKey) (len : ℕ) (done : ℕ → Bool) : Type 0 where
+  pub heap : IsHeap key_order xs len
   pub settled : Settled net states pots preds s xs len done
 
--- a round from some node that is settling
-pub record Underway (net : Digraph) (states pots preds dists : List ℕ) (xs : List NodeKey) (h len : ℕ) : Type 0 where
+-- a search from some node that is settling
+pub record Underway (net : Digraph) (states pots preds : List ℕ) (xs : List NodeKey) (len : ℕ) : Type 0 where
   pub source : ℕ
   pub done : ℕ → Bool
   pub inside : source < length xs
-  pub settling : Settling net states pots preds dists source xs h len done
-
--- two entries in each other's place
-pub record Traded (xs ys : List NodeKey) (a b : ℕ) : Type 0 where
-  pub one : get_or ys a blank ≡ slice_index_or xs b blank
-  pub other : get_or ys b blank ≡ slice_index_or xs a blank
-  pub rest : (k : ℕ) → (k ≢ a) → (k ≢ b) → slice_index_or ys k blank ≡ slice_index_or xs k blank
-  pub moved : (n : ℕ) → a < n → b < n → Moved n xs ys
-
--- the entry at i, behind the first h, became x and joined their heap; the one at h took its place
-pub record Entered (preds : List ℕ) (xs : List NodeKey) (h i : ℕ) (x : NodeKey) (preds' : List ℕ) (ys : List NodeKey) : Type 0 where
-  pub mid : List NodeKey
-  pub placed : preds' ≡ slice_set preds (node_at xs h) i
-  pub traded : Traded xs mid h i
-  pub moved : Moved (h + 1) (slice_set mid h x) ys
-  pub heap : IsHeap key_order mid h → IsHeap key_order ys (h + 1)
-
--- the nearest entry x of the heap in the first h left it, and came to stand behind the others of the first len;
--- the one that stood there, if it is another, took its place
-pub record Nearest (preds : List ℕ) (xs : List NodeKey) (h len : ℕ) (x : NodeKey) (preds' : List ℕ) (ys : List NodeKey) : Type 0 where
-  pub mid : List NodeKey
-  pub popped : Popped (λ x' y' r'. r' ≡ (node_key.ghosts).cmp x' y') xs h x mid
-  pub placed : preds' ≡ cond (nat_lt h len) (slice_set preds (node_at mid (len - 1)) (h - 1)) preds
-  pub traded : Traded mid ys (h - 1) (len - 1)
+  pub settling : Settling net states pots preds source xs len done
 
 -- what an offer of the node v at y by the arc e did: nothing, since the entry was no farther or not among the first len, or it came nearer
 pub record Passed (xs : List NodeKey) (preds : List ℕ) (len v y e : ℕ) (ys : List NodeKey) (preds' : List ℕ) : Type 0 where
@@ -131,15 +82,13 @@ pub record Passed (xs : List NodeKey) (preds : List ℕ) (len v y e : ℕ) (ys :
   pub near : (k : ℕ) → k < len → node_at xs k ≡ v → NoFarther (reach_at xs k) (At y)
 
 pub record Improved (xs : List NodeKey) (preds : List ℕ) (len v y e : ℕ) (ys : List NodeKey) (preds' : List ℕ) : Type 0 where
-  pub mid : List NodeKey
-  pub between : Moved len xs mid
   pub i : ℕ
   pub below : i < len
-  pub node : node_at mid i ≡ v
-  pub nearer : NoFarther (At y) (reach_at mid i)
-  pub moved : Moved len (slice_set mid i (record { reach = At y; node = v })) ys
-  pub linked : get_or preds' v 0 ≡ e
-  pub others : (k x : ℕ) → k < length mid → reach_at mid k ≡ At x → (node_at mid k ≢ v) → slice_index preds' (node_at mid k) ≡ slice_index preds (node_at mid k)
+  pub node : node_at xs i ≡ v
+  pub nearer : NoFarther (At y) (reach_at xs i)
+  pub moved : Moved len (slice_set xs i (record { reach = At y; node = v })) ys
+  pub heap : IsHeap key_order xs len → IsHeap key_order ys len
+  pub linked : preds' ≡ slice_set preds v e
 
 abbrev pub Offered : List NodeKey → List ℕ → ℕ → ℕ → ℕ → ℕ → List NodeKey → List ℕ → Type 0
 Offered xs preds len v y e ys preds' = Passed xs preds len v y e ys preds' ⊎ Improved xs preds len v y e ys preds'
@@ -173,8 +122,8 @@ abbrev pub more : (ℕ → Bool) → ℕ → ℕ → Bool
 more done e i = cond (i == e) true (done i)
 
 -- what is settled once the arcs at lo to hi of an order are relaxed besides those of done
-pub record Covered (net : Digraph) (states pots preds dists : List ℕ) (s : ℕ) (xs : List NodeKey) (h len : ℕ) (order : List ℕ) (lo hi : ℕ) (done : ℕ → Bool) : Type 0 where
+pub record Covered (net : Digraph) (states pots preds : List ℕ) (s : ℕ) (xs : List NodeKey) (len : ℕ) (order : List ℕ) (lo hi : ℕ) (done : ℕ → Bool) : Type 0 where
   pub now_done : ℕ → Bool
-  pub settling : Settling net states pots preds dists s xs h len now_done
+  pub settling : Settling net states pots preds s xs len now_done
   pub keeps : (i : ℕ) → done i ≡ true → now_done i ≡ true
   pub covers : (p : ℕ) → lo ≤ p → p < hi → now_done (slice_index order p) ≡ true

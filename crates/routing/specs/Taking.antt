@@ -1,4 +1,4 @@
--- What two rounds are given and find.
+-- What a whole search is given and finds.
 use Rattle.std.specs.Prelude.{◌≡◌, ℕ, ◌+◌, ◌<◌, ◌≤◌, Bool, true, false, cond, List, [], ◌∷◌, length, slice_index, slice_index_or}
 use Rattle.std.specs.List.{AllByRecursion as All}
 use Rattle.paths.specs.Pairs.{Digraph, sum, Walk}

@@ -1,4 +1,4 @@
--- A graph as a round is given it.
+-- A graph as a search is given it.
 use Rattle.std.specs.Prelude.{ℕ, List, length}
 use Rattle.graph.specs.declared.arc.Arc.{Arc}
 use Rattle.graph.specs.declared.view.View.{View}

@@ -1,10 +1,10 @@
 mod dijkstra;
 mod extract;
-mod finding;
 mod key;
 mod path;
 mod rounds;
+mod search;
 
-pub use finding::{SearchFault, find_pair};
 pub use key::{NodeKey, Reach};
 pub use path::{Pair, Path};
+pub use search::{SearchFault, find_pair};

@@ -1,4 +1,4 @@
-// A path and a pair of paths as `find_pair` answers them.
+// A path and a pair of paths as the search answers them.
 ghost use Rattle.std.specs.Prelude.{◌≡◌, ◌≤◌, take};
 
 // A path: its links from the first to the last. It visits no node twice, so among 32 nodes it has at most 31.

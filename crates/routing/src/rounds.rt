@@ -73,18 +73,17 @@ fn round(
     states: &mut [u32],
     pots: &mut [u32],
     preds: &mut [u32],
-    dists: &mut [u32],
     entries: &mut [NodeKey],
     source: u8,
     target: u8,
 ) -> bool
     requires fit { Fit (net_of graph) states.old pots.old (length entries.old) }
     requires sorted { SortedArcs graph (length entries.old) }
-    requires sizes { (length preds.old ≡ length entries.old) × (length dists.old ≡ length entries.old) × (source < length entries.old) × (target < length entries.old) }
+    requires sizes { (length preds.old ≡ length entries.old) × (source < length entries.old) × (target < length entries.old) }
     ensures { MatchBool result (Rounded (net_of graph.entry) states.old pots.old states.new pots.new (length entries.old) source target)
         (CutOff (net_of graph.entry) states.old pots.old states.new pots.new source target) }
 {
-    match explore(graph, states, pots, preds, dists, entries, source, target) {
+    match explore(graph, states, pots, preds, entries, source, target) {
         None => false,
         Some(arrival) => {
             raise(entries, pots, arrival.far);
@@ -118,20 +117,19 @@ pub(crate) fn choose(
     states: &mut [u32],
     pots: &mut [u32],
     preds: &mut [u32],
-    dists: &mut [u32],
     entries: &mut [NodeKey],
     source: u8,
     target: u8,
 ) -> bool
     requires ready { Ready (net_of graph) states.old (length entries.old) }
     requires sorted { SortedArcs graph (length entries.old) }
-    requires sizes { (length preds.old ≡ length entries.old) × (length dists.old ≡ length entries.old) × (length pots.old ≡ length entries.old) × (source < length entries.old) × (target < length entries.old) }
+    requires sizes { (length preds.old ≡ length entries.old) × (length pots.old ≡ length entries.old) × (source < length entries.old) × (target < length entries.old) }
     ensures { MatchBool result (Doubled (net_of graph.entry) states.old states.new pots.new source target)
         (NoPair (net_of graph.entry) (usable states.old) source target) }
 {
     level(pots);
-    if !round(graph, states, pots, preds, dists, entries, source, target) {
+    if !round(graph, states, pots, preds, entries, source, target) {
         return false;
     }
-    round(graph, states, pots, preds, dists, entries, source, target)
+    round(graph, states, pots, preds, entries, source, target)
 }

@@ -13,13 +13,13 @@ returns g c =
     let i = c.args.i in
     let x = c.args.x in
     let e = c.index-items-i.result in
-    let sift = c.sift-up.ensures in
+    let sift = c.sift_up.ensures in
     let lower : (o : IsTotalOrder g.T.Ord.cmp) (d : g.row.T.Denot) → before o x (get_or xs i d) ≡ true =
-    λ o d. ap (before o x) (any_default xs i d e (omega arith)) ∙ ap is_lt (sym c.cmp.ensures) ∙ sym c.if-not-is-lt.ensures in
+    λ o d. ap (before o x) (any_default xs i d e (omega arith)) ∙ ap is_lt (sym c.cmp.ensures) ∙ sym c.if-not-is_lt.ensures in
     record {
       place = omega arith;
       within = omega arith;
       lower = lower;
       moved = sift.moved n (omega arith);
-      heap = lower_heaps (λ x' y' r'. r' ≡ g.T.Ord.cmp x' y') xs c.sift-up.new.items n i x (omega arith) (omega arith) lower sift.rises;
+      heap = lower_heaps g.T.Ord.cmp xs c.sift_up.new.items n i x (omega arith) (omega arith) lower sift.rises;
     }

@@ -9,15 +9,15 @@ pub returns : goal.returns
 returns g c =
     let xs = c.args.items.now in
     let zs = c.swap.new.self in
-    let ys = c.sift-down.new.items in
+    let ys = c.sift_down.new.items in
     let n = c.args.len in
     let x = c.index-items-0.result in
     let swap = c.swap.ensures in
-    let sift = c.sift-down.ensures in
+    let sift = c.sift_down.ensures in
     let first = get_or_read xs 0 x (omega arith) c.index-items-0.is in
     record {
       top = record { some = omega arith; within = omega arith; first = first; least = λ o. top_least o xs n x first };
       behind = λ d. moves.rest_at (n - 1) zs ys (sift.moved (n - 1) (omega arith)) (n - 1) d (omega arith) ∙ swap.by_index.1 d ∙ sym (first d);
       moved = moves.again n xs zs ys (moves.swapped n xs zs 0 (n - 1) (omega arith) (omega arith) (omega arith) (omega arith) swap.after) (sift.moved n (omega arith));
-      heap = pop_heaps (λ x' y' r'. r' ≡ g.T.Ord.cmp x' y') xs zs ys n (record { one = swap.by_index.0; other = swap.by_index.1; rest = swap.by_index.2 }) sift.sinks;
+      heap = pop_heaps g.T.Ord.cmp xs zs ys n (record { one = swap.by_index.0; other = swap.by_index.1; rest = swap.by_index.2 }) sift.sinks;
     }

@@ -5,9 +5,9 @@ use Rattle.heap.proofs.push.Goals as goal
 pub returns : goal.returns
 returns g c =
     let n = c.args.len in
-    let sift = c.sift-up.ensures in
+    let sift = c.sift_up.ensures in
     record {
       room = omega arith;
       moved = sift.moved (n + 1) (omega arith);
-      heap = push_heaps (λ x' y' r'. r' ≡ g.T.Ord.cmp x' y') c.args.items.now c.sift-up.new.items n c.args.x sift.rises;
+      heap = push_heaps g.T.Ord.cmp c.args.items.now c.sift_up.new.items n c.args.x sift.rises;
     }

@@ -6,7 +6,7 @@ use Rattle.heap.proofs.sift.least_child.Goals.{else-right-len-via-then-right-len
 pub returns-then-before : goal.returns-then-before
 returns-then-before g c = record {
   child = omega arith;
-  least = right_child (λ x' y' r'. r' ≡ g.T.Ord.cmp x' y') c.args.items.now c.args.parent (2 * c.args.parent + 1) c.args.len (omega arith) c.if-before.ensures;
+  least = right_child g.T.Ord.cmp c.args.items.now c.args.parent (2 * c.args.parent + 1) c.args.len (omega arith) c.if-before.ensures;
 }
 
 pub returns : goal.returns

@@ -6,7 +6,7 @@ use Rattle.heap.proofs.sift.sift_down.Goals as goal
 pub loop-parent-init : goal.loop-parent-init
 loop-parent-init g c =
     let xs = c.args.items.now in
-    (λ n _. moves.still n xs, sink_begins (λ x' y' r'. r' ≡ g.T.Ord.cmp x' y') xs c.args.len)
+    (λ n _. moves.still n xs, sink_begins g.T.Ord.cmp xs c.args.len)
 
 pub loop-parent-preserved : goal.loop-parent-preserved
 loop-parent-preserved g c =
@@ -14,12 +14,12 @@ loop-parent-preserved g c =
     let ys = c.loop-parent.items in
     let zs = c.swap.new.self in
     let j = c.loop-parent.parent in
-    let k = c.least-child-child.result in
-    let found = c.least-child-child.ensures in
+    let k = c.least_child-child.result in
+    let found = c.least_child-child.ensures in
     let swap = c.swap.ensures in
     let inv = c.loop-parent.invariant in (
       λ n l. moves.again n xs ys zs (inv.0 n l) (moves.swapped n ys zs j k (omega arith) (omega arith) (omega arith) (omega arith) swap.after),
-      sink_steps (λ x' y' r'. r' ≡ g.T.Ord.cmp x' y') xs ys zs c.args.len j k found.child.1 found.child.2 found.child.0
+      sink_steps g.T.Ord.cmp xs ys zs c.args.len j k found.child.1 found.child.2 found.child.0
           (record { one = swap.by_index.0; other = swap.by_index.1; rest = swap.by_index.2 }) found.least c.if-not-before.ensures inv.1,
     )
 
@@ -28,8 +28,8 @@ returns-then-not-before g c =
     let inv = c.loop-parent.invariant in
     record {
       moved = inv.0;
-      sinks = sink_rests (λ x' y' r'. r' ≡ g.T.Ord.cmp x' y') c.args.items.now c.loop-parent.items c.args.len c.loop-parent.parent c.least-child-child.result
-          c.least-child-child.ensures.least c.if-not-before.ensures inv.1;
+      sinks = sink_rests g.T.Ord.cmp c.args.items.now c.loop-parent.items c.args.len c.loop-parent.parent c.least_child-child.result
+          c.least_child-child.ensures.least c.if-not-before.ensures inv.1;
     }
 
 pub returns : goal.returns
@@ -37,5 +37,5 @@ returns g c =
     let inv = c.loop-parent.invariant in
     record {
       moved = inv.0;
-      sinks = sink_ends (λ x' y' r'. r' ≡ g.T.Ord.cmp x' y') c.args.items.now c.loop-parent.items c.args.len c.loop-parent.parent c.loop-parent-test.false inv.1;
+      sinks = sink_ends g.T.Ord.cmp c.args.items.now c.loop-parent.items c.args.len c.loop-parent.parent c.loop-parent-test.false inv.1;
     }

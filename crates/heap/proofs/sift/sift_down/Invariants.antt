@@ -6,7 +6,7 @@ use Rattle.heap.proofs.sift.sift_down.Given as goal
 abbrev pub invariant-loop-parent : goal.invariant-loop-parent
 invariant-loop-parent g l =
     ((n : ℕ) → l.len ≤ n → Moved n l.initial.items l.items)
-    × Sinking (λ x' y' r'. r' ≡ g.T.Ord.cmp x' y') l.initial.items l.len l.items l.parent
+    × Sinking g.T.Ord.cmp l.initial.items l.len l.items l.parent
 
 abbrev pub decreases-loop-parent : goal.decreases-loop-parent
 decreases-loop-parent g l = l.len - l.parent

@@ -7,7 +7,7 @@ abbrev pub invariant-loop-child : goal.invariant-loop-child
 invariant-loop-child g l =
     (l.child ≤ l.from)
     × ((n : ℕ) → l.from < n → Moved n l.initial.items l.items)
-    × Rising (λ x' y' r'. r' ≡ g.T.Ord.cmp x' y') l.initial.items l.from l.items l.child
+    × Rising g.T.Ord.cmp l.initial.items l.from l.items l.child
 
 abbrev pub decreases-loop-child : goal.decreases-loop-child
 decreases-loop-child g l = l.child

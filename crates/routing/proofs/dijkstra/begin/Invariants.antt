@@ -4,4 +4,4 @@ use Rattle.routing.specs.Entries.{blank}
 use Rattle.routing.proofs.dijkstra.begin.Given as goal
 
 abbrev pub invariant-loop-k : goal.invariant-loop-k
-invariant-loop-k l = (j : ℕ) → j < l.k → (get_or l.entries j blank ≡ record { reach = NotReached; node = j }) × (get_or l.preds j 0 ≡ j) × (get_or l.dists j 0 ≡ 4294967295)
+invariant-loop-k l = (j : ℕ) → j < l.k → get_or l.entries j blank ≡ record { reach = NotReached; node = j }

@@ -1,47 +1,42 @@
-use Rattle.std.proofs.Common.{◌≡◌, ℕ, ◌<◌, ◌≤◌, List, length, get_or, sym, refl, ap, ◌∙◌, subst, inl, inr, arith}
-use Rattle.std.proofs.lemmas.List.{get_or-set_same, get_or-set_other}
-use Rattle.heap.proofs.Moves.{still}
+use Rattle.std.proofs.Common.{◌≡◌, false, get_or, sym, refl, subst, inl, inr, arith}
+use Rattle.heap.specs.Least.{before}
+use Rattle.routing.specs.Orders.{key_order, NoFarther}
 use Rattle.routing.specs.declared.key.NodeKey.{NodeKey}
-use Rattle.routing.specs.Entries.{node_at}
-use Rattle.routing.proofs.Fronts.{front_entered, front_lowered, waits_at}
+use Rattle.routing.specs.declared.key.Reach.TheVariants.{At}
+use Rattle.routing.specs.Entries.{blank, reach_at}
+use Rattle.routing.proofs.Ranks.{no_farther, nearer, not_lower}
+use Rattle.routing.proofs.Places.{one_place}
 use Rattle.routing.proofs.dijkstra.offer.Goals as goal
 
-pub enter-requires : goal.enter-requires
-enter-requires c =
-    let W = waits_at c.args.preds.now c.args.dists.now c.args.entries.now c.args.heap c.args.len c.args.node c.requires.front c.requires.sizes.0 c.requires.sizes.2 c.requires.once c.if-dists-v-2.true in
-    (W.0, omega (arith, W.1), omega (arith, W.1), omega (arith, c.requires.nodes c.args.heap (omega (arith, W.0, W.1)), c.requires.front.linked))
-
-pub returns-then-dists-v-2 : goal.returns-then-dists-v-2
-returns-then-dists-v-2 c =
-    let preds = c.args.preds.now in
-    let v = c.args.node in
-    let W = waits_at preds c.args.dists.now c.args.entries.now c.args.heap c.args.len v c.requires.front c.requires.sizes.0 c.requires.sizes.2 c.requires.once c.if-dists-v-2.true in
-    let E = front_entered preds c.args.dists.now c.args.entries.now c.args.heap c.args.len (get_or preds v 0) v c.args.far c.args.arc c.enter.new.entries c.requires.front c.requires.sizes.0 W.1 W.2
-    c.requires.nodes c.requires.once (omega (arith, c.requires.front.long)) c.requires.sizes.3 (omega arith) W.0 c.enter.new.preds c.enter.ensures in
-    record { front = E.0; offered = inr E.1 }
-
-pub returns : goal.returns
-returns c =
+pub returns-then-lower : goal.returns-then-lower
+returns-then-lower c =
     let xs = c.args.entries.now in
-    let preds = c.args.preds.now in
-    let v = c.args.node in
-    let arc = c.args.arc in
-    let inside = c.requires.front.inside in
-    let linked = c.requires.front.linked in
+    let i = c.in-Some.i in
     let at = c.in-Some.ensures in
-    let L = front_lowered preds c.args.dists.now xs c.args.heap c.args.len c.in-Some.i v c.args.far arc c.lower.new.items c.requires.front c.requires.sizes.0 (omega (arith, at.0)) at.1
-    c.requires.nodes c.requires.once (omega (arith, c.requires.front.long)) c.requires.sizes.3 (omega arith) c.lower.result at.0 c.lower.ensures in
-    record {
-      front = L.0;
-      offered = inr (record {
-        mid = xs;
-        between = still c.args.len xs;
-        i = c.in-Some.i;
-        below = omega (arith, at.0);
-        node = at.1;
-        nearer = L.2;
-        moved = L.1;
-        linked = get_or-set_same preds v arc 0 (omega arith);
-        others = λ k x l r d. get_or-set_other preds v (node_at xs k) arc 0 d;
-      });
-    }
+    let key : NodeKey = record { reach = At c.args.far; node = c.args.node } in
+    let L = c.if-lower.ensures in
+    inr (record {
+      i = i;
+      below = at.0;
+      node = at.1;
+      nearer = nearer key (get_or xs i blank) (L.lower key_order blank);
+      moved = L.moved;
+      heap = L.heap key_order;
+      linked = refl;
+    })
+
+pub returns-else-lower : goal.returns-else-lower
+returns-else-lower c =
+    let xs = c.args.entries.now in
+    let i = c.in-Some.i in
+    let at = c.in-Some.ensures in
+    let key : NodeKey = record { reach = At c.args.far; node = c.args.node } in
+    let N = c.if-lower.ensures in
+    let kept : before key_order key (get_or xs i blank) ≡ false = not_lower xs c.args.len i key at.0 (omega arith) N.0 in
+    inl (record {
+      entries = N.1;
+      linked = refl;
+      near = λ k l q.
+          let z = one_place xs c.args.node k i c.requires.2 (omega arith) (omega arith) q at.1 in
+          subst (λ a. NoFarther (reach_at xs a) (At c.args.far)) (sym z) (no_farther (get_or xs i blank) key kept);
+    })

@@ -6,13 +6,13 @@ use Rattle.routing.proofs.dijkstra.relax_each.Goals as goal
 
 pub loop-p-init : goal.loop-p-init
 loop-p-init c = (
-  λ s done S. covers_none (net_of c.args.graph) c.args.states.now c.args.pots.now c.args.preds.now c.args.dists.now s c.args.entries.now c.args.heap c.args.len c.args.sorted.order.now (get_or c.args.sorted.first.now c.args.node 0) done S,
+  λ s done S. covers_none (net_of c.args.graph) c.args.states.now c.args.pots.now c.args.preds.now s c.args.entries.now c.args.len c.args.sorted.order.now (get_or c.args.sorted.first.now c.args.node 0) done S,
   c.requires.here,
   λ k l. refl,
 )
 
-pub relax-reached-requires : goal.relax-reached-requires
-relax-reached-requires c =
+pub relax-requires : goal.relax-requires
+relax-requires c =
     let long : length c.args.entries.now ≡ length c.loop-p.entries = omega arith in
     let C = c.loop-p.invariant.0 c.requires.underway.source c.requires.underway.done c.requires.underway.settling in
     record {
@@ -26,10 +26,10 @@ pub loop-p-preserved : goal.loop-p-preserved
 loop-p-preserved c = (
   λ s done S.
       let C = c.loop-p.invariant.0 s done S in
-      covers_more (net_of c.args.graph) c.args.states.now c.args.pots.now c.loop-p.preds c.relax-reached.new.preds c.loop-p.dists c.relax-reached.new.dists s c.loop-p.entries c.relax-reached.new.entries c.loop-p.reached c.relax-reached.result c.args.len c.args.sorted.order.now (get_or c.args.sorted.first.now c.args.node 0) c.loop-p.p done C
-      (λ T. c.relax-reached.ensures.settling s C.now_done T),
-  c.relax-reached.ensures.here,
-  λ k l. c.relax-reached.ensures.kept k l ∙ c.loop-p.invariant.2 k l,
+      covers_more (net_of c.args.graph) c.args.states.now c.args.pots.now c.loop-p.preds c.relax.new.preds s c.loop-p.entries c.relax.new.entries c.args.len c.args.sorted.order.now (get_or c.args.sorted.first.now c.args.node 0) c.loop-p.p done C
+      (λ T. c.relax.ensures.settling s C.now_done T),
+  c.relax.ensures.here,
+  λ k l. c.relax.ensures.kept k l ∙ c.loop-p.invariant.2 k l,
 )
 
 pub returns : goal.returns
@@ -38,6 +38,6 @@ returns c =
     record {
       here = c.loop-p.invariant.1;
       kept = c.loop-p.invariant.2;
-      covered = λ s done S. subst (λ k. Covered (net_of c.args.graph) c.args.states.now c.args.pots.now c.loop-p.preds c.loop-p.dists s c.loop-p.entries c.loop-p.reached c.args.len c.args.sorted.order.now (get_or c.args.sorted.first.now c.args.node 0) k done) end
+      covered = λ s done S. subst (λ k. Covered (net_of c.args.graph) c.args.states.now c.args.pots.now c.loop-p.preds s c.loop-p.entries c.args.len c.args.sorted.order.now (get_or c.args.sorted.first.now c.args.node 0) k done) end
           (c.loop-p.invariant.0 s done S);
     }

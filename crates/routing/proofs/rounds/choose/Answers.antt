@@ -18,7 +18,7 @@ round-requires-2 c =
           (second_fit (net_of c.args.graph) c.args.states.now n c.args.source c.args.target c.requires.ready c.level.new.pots c.round.new.states c.round.new.pots
           c.if-not-round.ensures c.level.ensures (omega arith) (omega arith));
       sorted = subst (SortedArcs c.args.graph) long c.requires.sorted;
-      sizes = (omega arith, omega arith, omega arith, omega arith);
+      sizes = (omega arith, omega arith, omega arith);
     }
 
 pub returns : goal.returns

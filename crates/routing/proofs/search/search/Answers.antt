@@ -7,13 +7,13 @@ use Rattle.routing.specs.Found.{links_of, allowed, Best}
 use Rattle.routing.specs.Views.{net_of}
 use Rattle.routing.proofs.Answered.{marked_ready, marked_usable, ranked_best}
 use Rattle.routing.proofs.Takes.{first_leading, first_rising, second_leading, second_rising, found_pair}
-use Rattle.routing.proofs.finding.cheapest_pair.Goals as goal
+use Rattle.routing.proofs.search.search.Goals as goal
 
 pub choose-requires : goal.choose-requires
 choose-requires c = record {
   ready = marked_ready (length c.args.entries.now) c.args.graph.arcs.now c.args.usable.now c.mark.new.states c.requires.within (omega arith) c.mark.ensures;
   sorted = c.requires.sorted;
-  sizes = (omega arith, omega arith, omega arith, omega arith, omega arith);
+  sizes = (omega arith, omega arith, omega arith, omega arith);
 }
 
 pub returns-then-not-choose : goal.returns-then-not-choose

@@ -5,7 +5,7 @@ use Rattle.routing.specs.Answer.{refusal}
 use Rattle.routing.specs.Found.{allowed}
 use Rattle.routing.specs.Views.{net_of}
 use Rattle.routing.proofs.Networks.{count_same, graph_same, found_answers}
-use Rattle.routing.proofs.finding.find_pair.Goals as goal
+use Rattle.routing.proofs.search.find_pair.Goals as goal
 
 pub returns-in-Some : goal.returns-in-Some
 returns-in-Some c =
@@ -35,9 +35,9 @@ returns c =
     let nodes : g.nodes ≡ node_count net = c.view-graph.ensures.nodes ∙ c.graph.ensures.nodes in
     let none : refusal g.nodes (length g.arcs.now) s t w k ≡ None = sym c.in-default.ensures in
     record {
-      answer = found_answers net (allowed c.args.usable.now) s t w k (net_of g) c.cheapest-pair-found.result
+      answer = found_answers net (allowed c.args.usable.now) s t w k (net_of g) c.search-found.result
           (ap (λ n. refusal n (length (link_list net)) s t w k) (sym nodes) ∙ ap (λ m. refusal g.nodes m s t w k) (sym (count_same (link_list net) g.arcs.now arcs)) ∙ none)
-          (graph_same (link_list net) g.arcs.now arcs) c.cheapest-pair-found.ensures;
+          (graph_same (link_list net) g.arcs.now arcs) c.search-found.ensures;
       words = search rules;
       entries = search rules;
     }

@@ -2,7 +2,7 @@ use Rattle.std.proofs.Common.{cond, get_or, set, sym, ap, ◌∙◌, inl, inr, a
 use Rattle.std.proofs.lemmas.List.{get_or-set_same, get_or-set_other}
 use Rattle.std.proofs.lemmas.Bool.{cases_eq}
 use Rattle.routing.specs.Found.{allowed}
-use Rattle.routing.proofs.finding.mark.Goals as goal
+use Rattle.routing.proofs.search.mark.Goals as goal
 
 pub loop-e-preserved : goal.loop-e-preserved
 loop-e-preserved c k l =

@@ -1,4 +1,4 @@
-// Finds the cheapest pair of paths with no common link.
+// The search for the cheapest pair of paths with no common link.
 ghost use Rattle.std.specs.Prelude.{◌≡◌, ◌+◌, ◌*◌, ◌<◌, ◌≤◌, length, replicate, is_ok, if◌then◌else◌, MatchOption, ◌≢◌};
 ghost use Rattle.paths.specs.Pairs.{NoPair};
 ghost use Rattle.routing.specs.Answer.{Answers, no_entry, refusal};
@@ -65,8 +65,8 @@ fn rank(one: Track, two: Track) -> Pair
     }
 }
 
-// The cheapest pair over the usable arcs, if there is a pair. Of the words it uses one for each arc and three for each node.
-fn cheapest_pair(
+// The cheapest pair over the usable arcs, if there is a pair. Of the words it uses one for each arc and two for each node.
+fn search(
     graph: View,
     usable: &[bool],
     source: u8,
@@ -76,7 +76,7 @@ fn cheapest_pair(
 ) -> Option<Pair>
     requires within { Within (length entries.old) graph.arcs.now }
     requires sorted { SortedArcs graph (length entries.old) }
-    requires room { 3 * length entries.old + (net_of graph).size ≤ length words.old }
+    requires room { 2 * length entries.old + (net_of graph).size ≤ length words.old }
     requires ends { (source < length entries.old) × (target < length entries.old) × (source ≢ target) }
     ensures { MatchOption result (NoPair (net_of graph.entry) (allowed usable.now) source target)
         (λ p. Best (net_of graph.entry) (allowed usable.now) source target p) }
@@ -84,10 +84,9 @@ fn cheapest_pair(
     let nodes = entries.len();
     let (states, rest) = words.split_at_mut(graph.arcs.len());
     let (pots, rest) = rest.split_at_mut(nodes);
-    let (preds, rest) = rest.split_at_mut(nodes);
-    let (dists, _) = rest.split_at_mut(nodes);
+    let (preds, _) = rest.split_at_mut(nodes);
     mark(states, usable);
-    if !choose(graph, states, pots, preds, dists, entries, source, target) {
+    if !choose(graph, states, pots, preds, entries, source, target) {
         return None;
     }
     let one = take_path(graph, states, source, target);
@@ -95,7 +94,7 @@ fn cheapest_pair(
     Some(rank(one, two))
 }
 
-// Why no pair is looked for.
+// Why a search is refused.
 #[derive(Clone, Copy)]
 pub enum SearchFault {
     // The source or the target is no node of the network.
@@ -106,7 +105,7 @@ pub enum SearchFault {
     ShortBuffer,
 }
 
-// Why no pair is looked for, if so.
+// Why there is no search, if so.
 fn refused(
     nodes: usize,
     links: usize,
@@ -131,7 +130,7 @@ fn refused(
 }
 
 // The cheapest pair of paths from `source` to `target` with no common link, over the links that are marked usable (a link
-// past the end of `usable` is not). Words and entries are the caller's, of any content: the call leaves every word 0 and
+// past the end of `usable` is not). Words and entries are the caller's, of any content: a search leaves every word 0 and
 // every entry "not reached, node 0", and a refusal changes nothing.
 pub fn find_pair(
     network: &Network,
@@ -157,7 +156,7 @@ pub fn find_pair(
     ) {
         return Err(fault);
     }
-    let found = cheapest_pair(graph, usable, source, target, words, &mut entries[0..nodes]);
+    let found = search(graph, usable, source, target, words, &mut entries[0..nodes]);
     words.fill(0);
     entries.fill(NodeKey {
         reach: Reach::NotReached,
