@@ -7,8 +7,8 @@ use Rattle.line.proofs.digits_of.Goals as goal
 
 pub loop-power-init : goal.loop-power-init
 loop-power-init c =
-    let e = first_digit c.args.n _ c.highest-power-power.ensures (omega arith) in
-    (c.highest-power-power.ensures.tens, omega arith, c.highest-power-power.ensures.reached, refl, sym (ap length e), cc)
+    let e = first_digit c.args.n _ c.highest_power-power.ensures (omega arith) in
+    (c.highest_power-power.ensures.tens, omega arith, c.highest_power-power.ensures.reached, refl, sym (ap length e), cc)
 
 pub digit-requires-in-loop-power : goal.digit-requires-in-loop-power
 digit-requires-in-loop-power c = omega (arith, (tenth _ c.loop-power.invariant.0 c.loop-power-test.true).1)
@@ -21,8 +21,8 @@ room c =
 pub bounds-digits-count : goal.bounds-digits-count
 bounds-digits-count c = room c
 
-pub overflow-add-count : goal.overflow-add-count
-overflow-add-count c = omega (arith, room c)
+pub overflow_add-count : goal.overflow_add-count
+overflow_add-count c = omega (arith, room c)
 
 pub loop-power-preserved : goal.loop-power-preserved
 loop-power-preserved c =

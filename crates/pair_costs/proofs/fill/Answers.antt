@@ -3,14 +3,14 @@ use Rattle.network.specs.Networks.{link_list, node_count}
 use Rattle.pair_costs.proofs.Costs.{column_below, in_rows, one_more, row_below}
 use Rattle.pair_costs.proofs.fill.Goals as goal
 
-pub overflow-cast-source : goal.overflow-cast-source
-overflow-cast-source c =
+pub overflow_cast-source : goal.overflow_cast-source
+overflow_cast-source c =
     let n = node_count c.args.network.now in
     let below = row_below n c.nodes-nodes.result c.loop-k.k (length c.args.costs.now) c.requires.sound.nodes_above c.nodes-nodes.ensures.value c.loop-k-test.true c.requires.room in
     omega (arith, below, c.requires.sound.nodes_below)
 
-pub cost-between-requires : goal.cost-between-requires
-cost-between-requires c =
+pub cost_between-requires : goal.cost_between-requires
+cost_between-requires c =
     let n = node_count c.args.network.now in
     record {
       sound = c.requires.sound;
@@ -24,10 +24,10 @@ cost-between-requires c =
 pub loop-k-preserved : goal.loop-k-preserved
 loop-k-preserved c =
     let net = c.args.network.now in (
-      omega (arith, c.loop-k.invariant.0, c.cost-between.auto.words),
-      omega (arith, c.loop-k.invariant.1, c.cost-between.auto.entries),
-      one_more (node_count net) (link_list net) c.loop-k.costs c.loop-k.k c.nodes-nodes.result c.cost-between.result
-          (omega (arith, c.loop-k-test.true, c.loop-k.auto.costs)) c.nodes-nodes.ensures.value c.loop-k.invariant.2 c.cost-between.ensures,
+      omega (arith, c.loop-k.invariant.0, c.cost_between.auto.words),
+      omega (arith, c.loop-k.invariant.1, c.cost_between.auto.entries),
+      one_more (node_count net) (link_list net) c.loop-k.costs c.loop-k.k c.nodes-nodes.result c.cost_between.result
+          (omega (arith, c.loop-k-test.true, c.loop-k.auto.costs)) c.nodes-nodes.ensures.value c.loop-k.invariant.2 c.cost_between.ensures,
     )
 
 pub returns : goal.returns

@@ -5,10 +5,10 @@ use Rattle.line.specs.Held.{held, room, spaced}
 use Rattle.line.proofs.Spaced.{kept_front, kept_front_on, next_fits, no_room, spaced_more}
 use Rattle.line.proofs.Line.each_number.Goals as goal
 
-pub returns-in-err-text : goal.returns-in-err-text
-returns-in-err-text c =
+pub returns-in_err-text : goal.returns-in_err-text
+returns-in_err-text c =
     let inv = c.loop-number.invariant.0 in
-    let failed = c.in-err-text.ensures in
+    let failed = c.in_err-text.ensures in
     let full = no_room (length (held c.loop-number.self) + 1) (room c.loop-number.self) failed.succeeds in
     let next = next_fits _ c.args.numbers.now _ _ c.loop-number-test.true inv in
     record {
@@ -17,25 +17,25 @@ returns-in-err-text c =
       capacity = omega arith;
     }
 
-pub returns-in-err-decimal : goal.returns-in-err-decimal
-returns-in-err-decimal c =
+pub returns-in_err-decimal : goal.returns-in_err-decimal
+returns-in_err-decimal c =
     let inv = c.loop-number.invariant.0 in
-    let space = c.in-ok-text.ensures.holds in
+    let space = c.in_ok-text.ensures.holds in
     let longer = simp length_push at (ap length space) in
-    let failed = c.in-err-decimal.ensures.appends in
+    let failed = c.in_err-decimal.ensures.appends in
     let full = no_room _ (room c.text.new.self) failed.succeeds in
     let next = next_fits _ c.args.numbers.now _ _ c.loop-number-test.true inv in
     let number = ap (λ n. length (decimal n)) c.from.ensures in
     record {
       kept = rw failed.holds (kept_front_on _ _ _ _ _ inv space);
-      cases = MatchResult-from_err _ _ _ c.from-residual-in-err-decimal.ensures.0 (λ _. omega arith);
+      cases = MatchResult-from_err _ _ _ c.from_residual-in_err-decimal.ensures.0 (λ _. omega arith);
       capacity = omega arith;
     }
 
 pub loop-number-preserved : goal.loop-number-preserved
 loop-number-preserved c =
-    let space = c.in-ok-text.ensures.holds in
-    let number = c.in-ok-decimal.ensures.appends.holds in
+    let space = c.in_ok-text.ensures.holds in
+    let number = c.in_ok-decimal.ensures.appends.holds in
     let more = spaced_more (held c.args.self.now) c.args.numbers.now c.loop-number.number-index c.loop-number-test.true in
     (cc, omega arith)
 

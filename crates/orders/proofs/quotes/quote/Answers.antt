@@ -11,12 +11,12 @@ use Rattle.orders.proofs.quotes.quote.Goals as goal
 buffer : {X Y : Type 0} (x y : Option Y) (now zero after : X) → x ≡ y → after ≡ cond (is_some y) now zero → after ≡ cond (is_some x) now zero
 buffer x y now zero after e h = h ∙ ap (λ o. cond (is_some o) now zero) (sym e)
 
-pub returns-in-err-check : goal.returns-in-err-check
-returns-in-err-check c =
+pub returns-in_err-check : goal.returns-in_err-check
+returns-in_err-check c =
     let net = c.args.network.now in
     let o = c.args.order in
-    let f = c.in-err-check.field-0.0 in
-    let bad : unfit (node_count net) o c.args.serial ≡ Some f = ap (λ n. unfit n o c.args.serial) (sym c.nodes.ensures.value) ∙ c.in-err-check.ensures in
+    let f = c.in_err-check.field-0.0 in
+    let bad : unfit (node_count net) o c.args.serial ≡ Some f = ap (λ n. unfit n o c.args.serial) (sym c.nodes.ensures.value) ∙ c.in_err-check.ensures in
     let p = err_from_is_err_and c.from-residual.result c.from-residual.ensures.1 in
     let e = ap (λ x. or_else x (short (node_count net) (length (link_list net)) (length c.args.words.now) (length c.args.entries.now))) bad in
     record {
@@ -25,19 +25,19 @@ returns-in-err-check c =
       entries = buffer _ _ _ _ _ e refl;
     }
 
-pub returns-in-err-found : goal.returns-in-err-found
-returns-in-err-found c =
+pub returns-in_err-found : goal.returns-in_err-found
+returns-in_err-found c =
     let net = c.args.network.now in
     let o = c.args.order in
     let w = length c.args.words.now in
     let k = length c.args.entries.now in
-    let told = c.in-err-found.ensures in
-    let f = c.in-err-found.field-0.0 in
-    let p = err_from_is_err_and c.from-residual-in-err-found.result c.from-residual-in-err-found.ensures.1 in
-    let fit : unfit (node_count net) o c.args.serial ≡ None = ap (λ n. unfit n o c.args.serial) (sym c.nodes.ensures.value) ∙ c.in-ok-check.ensures in
+    let told = c.in_err-found.ensures in
+    let f = c.in_err-found.field-0.0 in
+    let p = err_from_is_err_and c.from_residual-in_err-found.result c.from_residual-in_err-found.ensures.1 in
+    let fit : unfit (node_count net) o c.args.serial ≡ None = ap (λ n. unfit n o c.args.serial) (sym c.nodes.ensures.value) ∙ c.in_ok-check.ensures in
     let bad = fault_refused net o c.args.serial w k fit f told.answer in
     record {
-      answer = quoted_refused net o _ f c.from-residual-in-err-found.result (p.1 ∙ ap Err p.2) bad;
+      answer = quoted_refused net o _ f c.from_residual-in_err-found.result (p.1 ∙ ap Err p.2) bad;
       words = buffer _ _ _ _ _ bad told.words;
       entries = buffer _ _ _ _ _ bad told.entries;
     }
@@ -48,15 +48,15 @@ returns c =
     let o = c.args.order in
     let w = length c.args.words.now in
     let k = length c.args.entries.now in
-    let told = c.in-ok-found.ensures in
-    let found = c.in-ok-found.found in
-    let flags = c.with-room-usable.result in
-    let fit : unfit (node_count net) o c.args.serial ≡ None = ap (λ n. unfit n o c.args.serial) (sym c.nodes.ensures.value) ∙ c.in-ok-check.ensures in
+    let told = c.in_ok-found.ensures in
+    let found = c.in_ok-found.found in
+    let flags = c.with_room-usable.result in
+    let fit : unfit (node_count net) o c.args.serial ≡ None = ap (λ n. unfit n o c.args.serial) (sym c.nodes.ensures.value) ∙ c.in_ok-check.ensures in
     let good = fault_none net o c.args.serial w k fit (answered net (allowed flags) o.source o.target w k found told.answer) in
     let same : (e : ℕ) → e < length (link_list net) → allowed flags e ≡ room_for (link_list net) o.amount e =
-    subst (λ (ls : List Link). (e : ℕ) → e < length ls → allowed flags e ≡ room_for ls o.amount e) c.links.ensures.value c.with-room-usable.ensures in
+    subst (λ (ls : List Link). (e : ℕ) → e < length ls → allowed flags e ≡ room_for ls o.amount e) c.links.ensures.value c.with_room-usable.ensures in
     record {
-      answer = quoted_found net o _ w k flags found c.ok-or.result c.ok-or.ensures.value good same told.answer;
+      answer = quoted_found net o _ w k flags found c.ok_or.result c.ok_or.ensures.value good same told.answer;
       words = buffer _ _ _ _ _ good told.words;
       entries = buffer _ _ _ _ _ good told.entries;
     }

@@ -5,12 +5,12 @@ use Rattle.orders.proofs.runs.log_words.Goals as goal
 pub returns-in-Ok : goal.returns-in-Ok
 returns-in-Ok c =
     let words = c.args.words.now in
-    orders_logged words c.args.whole c.split-at.result.0.now c.split-at.result.1.now c.in-Ok.network c.log-orders.result
-    (c.split-at.ensures.front ∙ ap (λ k. take k words) c.extent.ensures) (c.split-at.ensures.back ∙ ap (λ k. drop k words) c.extent.ensures)
-    c.in-Ok.ensures.answer c.log-orders.ensures
+    orders_logged words c.args.whole c.split_at.result.0.now c.split_at.result.1.now c.in-Ok.network c.log_orders.result
+    (c.split_at.ensures.front ∙ ap (λ k. take k words) c.extent.ensures) (c.split_at.ensures.back ∙ ap (λ k. drop k words) c.extent.ensures)
+    c.in-Ok.ensures.answer c.log_orders.ensures
 
 pub returns-in-Err : goal.returns-in-Err
 returns-in-Err c =
     let words = c.args.words.now in
-    fault_logged words c.args.whole c.split-at.result.0.now c.in-Err.fault c.log-fault.result
-    (c.split-at.ensures.front ∙ ap (λ k. take k words) c.extent.ensures) c.in-Err.ensures.answer c.log-fault.ensures
+    fault_logged words c.args.whole c.split_at.result.0.now c.in-Err.fault c.log_fault.result
+    (c.split_at.ensures.front ∙ ap (λ k. take k words) c.extent.ensures) c.in-Err.ensures.answer c.log_fault.ensures

@@ -6,5 +6,5 @@ use Rattle.orders.proofs.runs.run.Goals as goal
 pub returns : goal.returns
 returns c =
     let input = c.args.input.now in
-    run_logged input c.deref.result.now _ c.log-words.result
-    (subst (λ (ws : List ℕ). IsWords input ws) (sym c.deref.ensures.value) c.in-ok-words.ensures) refl c.log-words.ensures
+    run_logged input c.deref.result.now _ c.log_words.result
+    (subst (λ (ws : List ℕ). IsWords input ws) (sym c.deref.ensures.value) c.in_ok-words.ensures) refl c.log_words.ensures

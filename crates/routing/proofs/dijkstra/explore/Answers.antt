@@ -20,8 +20,8 @@ loop-key-init c = (
   λ k l m q. omega arith,
 )
 
-pub returns-in-default-reach : goal.returns-in-default-reach
-returns-in-default-reach c =
+pub returns-in_default-reach : goal.returns-in_default-reach
+returns-in_default-reach c =
     let net = net_of c.args.graph in
     let st = c.args.states.now in
     let ps = c.args.pots.now in
@@ -32,7 +32,7 @@ returns-in-default-reach c =
     let told = c.in-Some.ensures in
     let long : length c.args.entries.now ≡ length ys = omega arith in
     let u = unreached_rest net st ps preds c.args.source xs ys c.loop-key.len c.in-Some.key S told.top.some told.moved (told.behind blank) (told.top.least S.heap)
-    c.in-default-reach.is c.args.target c.loop-key.invariant.1 in
+    c.in_default-reach.is c.args.target c.loop-key.invariant.1 in
     severed net st ps preds c.args.source c.args.target ys c.loop-key.len u.0 (subst (Fit net st ps) long c.requires.fit) (omega arith) (omega arith) u.1 u.2
 
 pub returns-then-key-target : goal.returns-then-key-target
@@ -96,6 +96,6 @@ returns c =
     let xs = c.loop-key.entries in
     let S = c.loop-key.invariant.0 in
     let long : length c.args.entries.now ≡ length xs = omega arith in
-    let none : c.loop-key.len ≡ 0 = empty xs c.loop-key.len S.settled.fits c.in-default.ensures.0 in
+    let none : c.loop-key.len ≡ 0 = empty xs c.loop-key.len S.settled.fits c.in_default.ensures.0 in
     severed net c.args.states.now c.args.pots.now c.loop-key.preds c.args.source c.args.target xs c.loop-key.len S.settled
     (subst (Fit net c.args.states.now c.args.pots.now) long c.requires.fit) (omega arith) (omega arith) (λ i l. absurd (omega arith)) c.loop-key.invariant.1

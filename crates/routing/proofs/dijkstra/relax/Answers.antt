@@ -4,8 +4,8 @@ use Rattle.routing.specs.Entries.{node_at, pot}
 use Rattle.routing.proofs.Settles.{offered, stands_offered, forth, backs, forth_not, back_not, out_not, passes, short, kept_offered}
 use Rattle.routing.proofs.dijkstra.relax.Goals as goal
 
-pub overflow-add-to-then-arc-node : goal.overflow-add-to-then-arc-node
-overflow-add-to-then-arc-node c =
+pub overflow_add-to-then-arc-node : goal.overflow_add-to-then-arc-node
+overflow_add-to-then-arc-node c =
     let net = net_of c.args.graph in
     let st = c.args.states.now in
     let ps = c.args.pots.now in
@@ -14,8 +14,8 @@ overflow-add-to-then-arc-node c =
     let l = short net st ps c.args.preds.now c.requires.underway.source xs c.args.len c.requires.underway.done c.args.node c.args.far c.requires.underway.settling c.requires.fit c.requires.underway.inside c.requires.sizes.0 c.requires.here in
     omega (arith, c.requires.fit.costs e c.requires.sizes.2, ap (pot ps) c.if-arc-node.true)
 
-pub overflow-add-to-then-arc-node-2 : goal.overflow-add-to-then-arc-node-2
-overflow-add-to-then-arc-node-2 c =
+pub overflow_add-to-then-arc-node-2 : goal.overflow_add-to-then-arc-node-2
+overflow_add-to-then-arc-node-2 c =
     let net = net_of c.args.graph in
     let st = c.args.states.now in
     let ps = c.args.pots.now in

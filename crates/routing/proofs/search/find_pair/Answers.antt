@@ -33,7 +33,7 @@ returns c =
     let g = c.view-graph.result in
     let arcs : g.arcs.now ≡ map arc_of (link_list net) = c.view-graph.ensures.arcs ∙ c.graph.ensures.arcs in
     let nodes : g.nodes ≡ node_count net = c.view-graph.ensures.nodes ∙ c.graph.ensures.nodes in
-    let none : refusal g.nodes (length g.arcs.now) s t w k ≡ None = sym c.in-default.ensures in
+    let none : refusal g.nodes (length g.arcs.now) s t w k ≡ None = sym c.in_default.ensures in
     record {
       answer = found_answers net (allowed c.args.usable.now) s t w k (net_of g) c.search-found.result
           (ap (λ n. refusal n (length (link_list net)) s t w k) (sym nodes) ∙ ap (λ m. refusal g.nodes m s t w k) (sym (count_same (link_list net) g.arcs.now arcs)) ∙ none)

@@ -21,8 +21,8 @@ returns-then-not-choose c =
     no_pair_same (net_of c.args.graph) (usable c.mark.new.states) (allowed c.args.usable.now) c.args.source c.args.target
     (λ e l. marked_usable c.args.usable.now c.mark.new.states c.mark.ensures e (omega arith)) c.if-not-choose.ensures
 
-pub take-path-one-requires : goal.take-path-one-requires
-take-path-one-requires c =
+pub take_path-one-requires : goal.take_path-one-requires
+take_path-one-requires c =
     let net = net_of c.args.graph in
     let was = c.mark.new.states in
     let pots = c.choose.new.pots in
@@ -43,8 +43,8 @@ take-path-one-requires c =
       leading = first_leading net was n c.args.source c.args.target N c.choose.new.states pots D long;
     }
 
-pub take-path-two-requires : goal.take-path-two-requires
-take-path-two-requires c =
+pub take_path-two-requires : goal.take_path-two-requires
+take_path-two-requires c =
     let net = net_of c.args.graph in
     let was = c.mark.new.states in
     let pots = c.choose.new.pots in
@@ -52,9 +52,9 @@ take-path-two-requires c =
     let N = marked_ready n c.args.graph.arcs.now c.args.usable.now was c.requires.within (omega arith) c.mark.ensures in
     let D = c.if-not-choose.ensures in
     let long : length pots ≡ n = omega arith in
-    let p = links_of c.take-path-one.result.path in
-    let left = c.take-path-one.new.states in
-    let T = c.take-path-one.ensures.taken in
+    let p = links_of c.take_path-one.result.path in
+    let left = c.take_path-one.new.states in
+    let T = c.take_path-one.ensures.taken in
     record {
       sizes = (omega arith, N.links);
       rising = (
@@ -79,11 +79,11 @@ returns c =
     let N = marked_ready n c.args.graph.arcs.now c.args.usable.now was c.requires.within (omega arith) c.mark.ensures in
     let D = c.if-not-choose.ensures in
     let long : length pots ≡ n = omega arith in
-    let one = c.take-path-one.result in
-    let two = c.take-path-two.result in
-    let C = found_pair net was n s t N c.choose.new.states pots D long (links_of one.path) c.take-path-one.new.states c.take-path-one.ensures.taken
-    (links_of two.path) c.take-path-two.new.states c.take-path-two.ensures.taken in
+    let one = c.take_path-one.result in
+    let two = c.take_path-two.result in
+    let C = found_pair net was n s t N c.choose.new.states pots D long (links_of one.path) c.take_path-one.new.states c.take_path-one.ensures.taken
+    (links_of two.path) c.take_path-two.new.states c.take_path-two.ensures.taken in
     let U = allowed c.args.usable.now in
     let same : (e : ℕ) → e < net.size → U e ≡ usable was e = λ e l. marked_usable c.args.usable.now was c.mark.ensures e (omega arith) in
     subst (λ (p : Pair). Best net U s t p) (sym c.rank.ensures)
-    (ranked_best net U s t one two c.requires.ends.2 (cheapest_same net (usable was) U s t same (links_of one.path) (links_of two.path) C) c.take-path-one.ensures.cost c.take-path-two.ensures.cost)
+    (ranked_best net U s t one two c.requires.ends.2 (cheapest_same net (usable was) U s t same (links_of one.path) (links_of two.path) C) c.take_path-one.ensures.cost c.take_path-two.ensures.cost)

@@ -5,4 +5,4 @@ use Rattle.trials.proofs.draft.add_links.Goals as goal
 pub loop-e-preserved : goal.loop-e-preserved
 loop-e-preserved c =
     grown_more c.args.nodes c.args.low c.args.high c.loop-e.-e (vec_items c.args.links.now) (vec_items c.loop-e.links) (vec_items c.push.new.self)
-    c.random-link.result c.loop-e.invariant c.random-link.ensures c.in-ok-push.ensures.items
+    c.random_link.result c.loop-e.invariant c.random_link.ensures c.in_ok-push.ensures.items

@@ -9,6 +9,6 @@ returns c =
       nodes = lent.nodes;
       arcs = lent.arcs;
       within = rw (lent.nodes, lent.arcs) (graph_within g);
-      leaving = rw (lent.nodes, lent.arcs, lent.leaving-first, lent.leaving-order) (graph_leaving g);
-      entering = rw (lent.nodes, lent.arcs, lent.entering-first, lent.entering-order) (graph_entering g);
+      leaving = rw (lent.nodes, lent.arcs, lent.leaving_first, lent.leaving_order) (graph_leaving g);
+      entering = rw (lent.nodes, lent.arcs, lent.entering_first, lent.entering_order) (graph_entering g);
     }

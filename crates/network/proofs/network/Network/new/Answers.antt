@@ -6,9 +6,9 @@ use Rattle.network.specs.Arcs.{arc_of}
 use Rattle.network.proofs.Invariant.{arcs_within, follow}
 use Rattle.network.proofs.network.Network.new.Goals as goal
 
-pub invariant-of-result : goal.invariant-of-result
-invariant-of-result c =
-    let given = c.in-ok-arcs.ensures ∙ ap (λ links. map arc_of links) c.deref.ensures.value in
+pub invariant_of-result : goal.invariant_of-result
+invariant_of-result c =
+    let given = c.in_ok-arcs.ensures ∙ ap (λ links. map arc_of links) c.deref.ensures.value in
     let graph = c.in-Ok.ensures in
     let arcs = graph.arcs ∙ given in
     let each = c.requires.each in (
@@ -27,6 +27,6 @@ invariant-of-result c =
 
 pub unreachable-requires : goal.unreachable-requires
 unreachable-requires c =
-    let given = c.in-ok-arcs.ensures ∙ ap (λ links. map arc_of links) c.deref.ensures.value in
-    let beyond = subst (λ fault. Made c.args.nodes (vec_items c.in-ok-arcs.arcs) (Err fault)) c.in-OutOfLimits.is c.in-Err.ensures in
+    let given = c.in_ok-arcs.ensures ∙ ap (λ links. map arc_of links) c.deref.ensures.value in
+    let beyond = subst (λ fault. Made c.args.nodes (vec_items c.in_ok-arcs.arcs) (Err fault)) c.in-OutOfLimits.is c.in-Err.ensures in
     beyond (subst (λ arcs. Within c.args.nodes arcs) (sym given) (arcs_within _ _ c.requires))

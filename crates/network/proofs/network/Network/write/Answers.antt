@@ -9,16 +9,16 @@ use Rattle.network.proofs.network.Network.write.Goals as goal
 
 pub loop-e-preserved : goal.loop-e-preserved
 loop-e-preserved c =
-    let room : 2 * c.loop-e.e + 3 ≤ length (set c.args.words.now 0 c.header-word.result) = simp length-set (omega arith) in
+    let room : 2 * c.loop-e.e + 3 ≤ length (set c.args.words.now 0 c.header_word.result) = simp length-set (omega arith) in
     put_more _ c.links-links.result.now _ c.loop-e.words c.loop-e.e _ _ c.loop-e-test.true room
-    c.ends-word.ensures c.limits-word.ensures c.loop-e.invariant
+    c.ends_word.ensures c.limits_word.ensures c.loop-e.invariant
 
 pub returns : goal.returns
 returns c =
     let same = c.links-links.ensures.value in
     let all : c.loop-e.e ≡ length c.links-links.result.now = omega arith in
     let some : 0 < length c.args.words.now = omega arith in
-    let header : c.header-word.result ≡ header_word c.args.self.now.nodes (length c.links-links.result.now) = cc in
+    let header : c.header_word.result ≡ header_word c.args.self.now.nodes (length c.links-links.result.now) = cc in
     let put = put_all _ _ c.links-links.result.now c.args.words.now c.loop-e.words c.loop-e.e all header some c.loop-e.invariant in
     let net = c.args.self.now in
     let count : 1 + 2 * length c.links-links.result.now ≡ 1 + 2 * length (link_list net) = cc in

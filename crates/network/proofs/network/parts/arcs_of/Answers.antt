@@ -6,7 +6,7 @@ use Rattle.network.proofs.network.parts.arcs_of.Goals as goal
 
 pub loop-link-preserved : goal.loop-link-preserved
 loop-link-preserved c =
-    let pushed = c.in-ok-push.ensures.items in
+    let pushed = c.in_ok-push.ensures.items in
     let so_far = c.loop-link.invariant in
     let more = map_more arc_of c.args.links.now c.loop-link.link-index blank c.loop-link-test.true in
     cc

@@ -9,9 +9,9 @@ loop-self-preserved c =
     let inv = c.loop-self.invariant in
     let long = ap length inv.0 in
     let header = c.requires.header in
-    let link = c.in-ok-link.ensures in
-    let items = c.in-ok-push.ensures.items in
-    let given = subst (λ ws. GivesLink c.args.nodes ws c.loop-self.self.place c.in-ok-link.link) inv.0 link.cases.0 in
+    let link = c.in_ok-link.ensures in
+    let items = c.in_ok-push.ensures.items in
+    let given = subst (λ ws. GivesLink c.args.nodes ws c.loop-self.self.place c.in_ok-link.link) inv.0 link.cases.0 in
     let more = collect_more _ _ _ _ _ (omega arith) given inv.3 in
     let sound = sound_push _ _ _ inv.4 given.sound in (
       link.same ∙ inv.0,
@@ -21,9 +21,9 @@ loop-self-preserved c =
       rw items sound,
     )
 
-pub returns-in-err-push : goal.returns-in-err-push
-returns-in-err-push c =
-    let p = err_from_is_err_and c.from-residual-in-err-push.result c.from-residual-in-err-push.ensures.1 in
+pub returns-in_err-push : goal.returns-in_err-push
+returns-in_err-push c =
+    let p = err_from_is_err_and c.from_residual-in_err-push.result c.from_residual-in_err-push.ensures.1 in
     rw (p.1, p.2) (network_there _ _ c.requires.header c.requires.clean)
 
 pub returns : goal.returns

@@ -4,6 +4,6 @@ use Rattle.network.proofs.reader.Reader.link.Goals as goal
 
 pub returns : goal.returns
 returns c =
-    let ends = c.in-ok-tail.ensures in
-    let limits = c.in-ok-capacity.ensures in
+    let ends = c.in_ok-tail.ensures in
+    let limits = c.in_ok-capacity.ensures in
     record { same = cc; cases = (gives_link _ _ _ _ ends.cases (simp (ends.same, ends.next) at limits.cases), omega arith) }

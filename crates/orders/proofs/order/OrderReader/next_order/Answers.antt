@@ -36,15 +36,15 @@ returns-then-self-lt2 c =
     let e = one_left me.words.now me.place c.if-self.false c.if-self-lt2.true in
     record { answer = next-is _ me.whole _ (Err NoOrder) e refl; rest = stays _ _ e refl; whole = refl }
 
-pub returns-then-not-is-reserve : goal.returns-then-not-is-reserve
-returns-then-not-is-reserve c =
+pub returns-then-not-is_reserve : goal.returns-then-not-is_reserve
+returns-then-not-is_reserve c =
     let me = c.args.self.now in
     let ws = me.words.now in
     let p = me.place in
     let w = get_or ws p 0 in
     let h = get_or ws (p + 1) 0 in
     let e = two_left ws p (omega arith) in
-    let k : is_reserve w h ≡ false = sym c.if-not-is-reserve.ensures in
+    let k : is_reserve w h ≡ false = sym c.if-not-is_reserve.ensures in
     record {
       answer = next-is _ me.whole (w ∷ h ∷ drop (p + 2) ws) (Err NoOrder) e (ap (picked w h) k);
       rest = stays _ (w ∷ h ∷ drop (p + 2) ws) e (ap (λ b. cond b (drop (p + 2) ws) (w ∷ h ∷ drop (p + 2) ws)) k);
@@ -59,9 +59,9 @@ returns c =
     let w = get_or ws p 0 in
     let h = get_or ws (p + 1) 0 in
     let e = two_left ws p (omega arith) in
-    let k : is_reserve w h ≡ true = sym c.if-not-is-reserve.ensures in
+    let k : is_reserve w h ≡ true = sym c.if-not-is_reserve.ensures in
     record {
-      answer = ap (λ o. Ok (Some o)) c.reserve-of.ensures ∙ next-is _ me.whole (w ∷ h ∷ drop (p + 2) ws) (Ok (Some (reserve_of w h))) e (ap (picked w h) k);
+      answer = ap (λ o. Ok (Some o)) c.reserve_of.ensures ∙ next-is _ me.whole (w ∷ h ∷ drop (p + 2) ws) (Ok (Some (reserve_of w h))) e (ap (picked w h) k);
       rest = sym (ap after_next e ∙ ap (λ b. cond b (drop (p + 2) ws) (w ∷ h ∷ drop (p + 2) ws)) k);
       whole = refl;
     }
