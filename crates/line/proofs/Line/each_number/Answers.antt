@@ -13,7 +13,7 @@ returns-in_err-text c =
     let next = next_fits _ c.args.numbers.now _ _ c.loop-number-test.true inv in
     record {
       kept = rw failed.holds (kept_front _ _ _ inv);
-      cases = MatchResult-from_err _ _ _ c.from-residual.ensures.0 (λ _. omega arith);
+      cases = MatchResult-from_err _ _ _ c.from_residual.ensures.0 (λ _. omega arith);
       capacity = omega arith;
     }
 

@@ -17,10 +17,10 @@ returns-in_err-check c =
     let o = c.args.order in
     let f = c.in_err-check.field-0.0 in
     let bad : unfit (node_count net) o c.args.serial ≡ Some f = ap (λ n. unfit n o c.args.serial) (sym c.nodes.ensures.value) ∙ c.in_err-check.ensures in
-    let p = err_from_is_err_and c.from-residual.result c.from-residual.ensures.1 in
+    let p = err_from_is_err_and c.from_residual.result c.from_residual.ensures.1 in
     let e = ap (λ x. or_else x (short (node_count net) (length (link_list net)) (length c.args.words.now) (length c.args.entries.now))) bad in
     record {
-      answer = quoted_unfit net o c.args.serial _ f c.from-residual.result (p.1 ∙ ap Err p.2) bad;
+      answer = quoted_unfit net o c.args.serial _ f c.from_residual.result (p.1 ∙ ap Err p.2) bad;
       words = buffer _ _ _ _ _ e refl;
       entries = buffer _ _ _ _ _ e refl;
     }

@@ -11,19 +11,15 @@ invariant_of-result c =
     let given = c.in_ok-arcs.ensures ∙ ap (λ links. map arc_of links) c.deref.ensures.value in
     let graph = c.in-Ok.ensures in
     let arcs = graph.arcs ∙ given in
-    let each = c.requires.each in (
-      (omega arith, omega arith),
-      (
-        (omega arith, omega arith),
-        (
-          λ e lt. ((each e lt).tail, (each e lt).head, (each e lt).apart),
-          (
-            λ e lt. let x = each e lt in (x.cost_above, x.cost_below, x.capacity_above, x.capacity_below, x.ceiling),
-            (graph.nodes, (ap length arcs ∙ length-map _ arc_of, (follow _ _ arcs, tt))),
-          ),
-        ),
-      ),
-    )
+    let each = c.requires.each in record {
+      size = (omega arith, omega arith);
+      count = (omega arith, omega arith);
+      ends = λ e lt. ((each e lt).tail, (each e lt).head, (each e lt).apart);
+      ranges = λ e lt. let x = each e lt in (x.cost_above, x.cost_below, x.capacity_above, x.capacity_below, x.ceiling);
+      graph_nodes = graph.nodes;
+      graph_count = ap length arcs ∙ length-map _ arc_of;
+      graph_arcs = follow _ _ arcs;
+    }
 
 pub unreachable-requires : goal.unreachable-requires
 unreachable-requires c =

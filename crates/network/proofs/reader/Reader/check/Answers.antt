@@ -18,7 +18,7 @@ returns-in_err-link c =
     let inv = c.loop-self.invariant in
     let long = ap length inv.0 in
     let link = c.in_err-link.ensures in
-    let p = err_from_is_err_and c.from-residual.result c.from-residual.ensures.1 in
+    let p = err_from_is_err_and c.from_residual.result c.from_residual.ensures.1 in
     let fault = subst (λ ws. link_fault c.args.nodes ws c.loop-self.self.place ≡ Some c.in_err-link.field-0.0) inv.0 link.cases in
     record {
       same = link.same ∙ inv.0;
