@@ -1,10 +1,10 @@
 -- The order of the heap's entries.
 use Rattle.std.specs.Prelude.{◌≤◌}
-use Rattle.std.specs.Cmp.{IsTotalOrder, nat_cmp_total}
-use Rattle.std.specs.Cmp.Derive.{on, fields, variant, point, void}
+use Rattle.std.specs.Cmp.{IsTotalOrder}
 use Rattle.routing.specs.contracts.key.ReachOrd.TheImpl as reach
+use Rattle.routing.specs.contracts.key.ReachOrd.TheImpl.Laws as reach_laws
 use Rattle.routing.specs.contracts.key.NodeKeyOrd.TheImpl as node_key
-use Rattle.routing.specs.contracts.key.Reach.{as_values}
+use Rattle.routing.specs.contracts.key.NodeKeyOrd.TheImpl.Laws as node_key_laws
 use Rattle.routing.specs.declared.key.Reach.{Reach}
 use Rattle.routing.specs.declared.key.Reach.TheVariants.{At, NotReached}
 use Rattle.routing.specs.declared.key.NodeKey.{NodeKey}
@@ -18,8 +18,8 @@ NoFarther NotReached NotReached = Unit {0}
 
 -- distances, then "not reached"
 abbrev pub reach_order : IsTotalOrder (reach.ghosts).cmp
-reach_order = on as_values (variant (on (λ a. a.0) nat_cmp_total) (variant point void))
+reach_order = reach_laws.total-law
 
 -- by distance, then by node
 abbrev pub key_order : IsTotalOrder (node_key.ghosts).cmp
-key_order = on (λ (x : NodeKey). (x.reach, x.node)) (fields reach_order nat_cmp_total)
+key_order = node_key_laws.total-law

@@ -25,7 +25,7 @@ loop-k-preserved c j l =
 
 -- "not reached" gives way to any distance
 lowered : (zs ys : List NodeKey) (s : ℕ) (r : Bool) (x : NodeKey) → s < length zs → before key_order x (get_or zs s blank) ≡ true →
-    MatchBool r (Lowered (λ x' y' r'. r' ≡ (node_key.ghosts).cmp x' y') zs (length zs) s x ys) (NotLower (λ x' y' r'. r' ≡ (node_key.ghosts).cmp x' y') zs (length zs) s x × (ys ≡ zs)) → Lowered (λ x' y' r'. r' ≡ (node_key.ghosts).cmp x' y') zs (length zs) s x ys
+    MatchBool r (Lowered (node_key.ghosts).cmp zs (length zs) s x ys) (NotLower (node_key.ghosts).cmp zs (length zs) s x × (ys ≡ zs)) → Lowered (node_key.ghosts).cmp zs (length zs) s x ys
 lowered zs ys s true x l first L = L
 lowered zs ys s false x l first N = absurd (both_ways _ (not_lower zs (length zs) s x l (omega arith) N.0) first)
 
@@ -40,6 +40,6 @@ returns c net states pots preds done =
     let L = lowered zs ys s c.lower.result x room (ap (before key_order x) (fresh s room) ∙ reached_first s s 0) c.lower.ensures in
     let long : length ys ≡ length zs = L.moved.len ∙ length-set zs s x in
     subst (λ n. Settling net states pots preds s ys n done) (sym long) (record {
-      heap = L.heap (fresh_heap zs fresh);
+      heap = L.heap key_order (fresh_heap zs fresh);
       settled = shuffled net states pots preds s (set zs s x) ys (length zs) done (started net states pots s zs room fresh preds done) L.moved;
     })

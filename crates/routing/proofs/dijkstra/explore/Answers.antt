@@ -10,7 +10,7 @@ use Rattle.routing.proofs.Settles.{popped, missed_popped, unreached_rest, missed
 use Rattle.routing.proofs.dijkstra.explore.Goals as goal
 
 -- a heap within its slice that has no top is empty
-empty : (xs : List NodeKey) (n : ℕ) → n ≤ length xs → NoTop (λ x' y' r'. r' ≡ (node_key.ghosts).cmp x' y') xs n → n ≡ 0
+empty : (xs : List NodeKey) (n : ℕ) → n ≤ length xs → NoTop (node_key.ghosts).cmp xs n → n ≡ 0
 empty xs n l (inl z) = z
 empty xs n l (inr m) = absurd (omega arith)
 
@@ -31,7 +31,7 @@ returns-in_default-reach c =
     let S = c.loop-key.invariant.0 in
     let told = c.in-Some.ensures in
     let long : length c.args.entries.now ≡ length ys = omega arith in
-    let u = unreached_rest net st ps preds c.args.source xs ys c.loop-key.len c.in-Some.key S told.top.some told.moved (told.behind blank) (told.top.least S.heap)
+    let u = unreached_rest net st ps preds c.args.source xs ys c.loop-key.len c.in-Some.key S told.top.some told.moved (told.behind blank) (told.top.least key_order S.heap)
     c.in_default-reach.is c.args.target c.loop-key.invariant.1 in
     severed net st ps preds c.args.source c.args.target ys c.loop-key.len u.0 (subst (Fit net st ps) long c.requires.fit) (omega arith) (omega arith) u.1 u.2
 
@@ -47,7 +47,7 @@ returns-then-key-target c =
     let told = c.in-Some.ensures in
     let long : length c.args.entries.now ≡ length ys = omega arith in
     let fits = S.settled.fits in
-    let p = popped net st ps preds c.args.source xs ys c.loop-key.len c.in-Some.key S told.top.some told.moved (told.behind blank) (told.top.least S.heap) c.in-At.far c.in-At.is (told.heap S.heap) in
+    let p = popped net st ps preds c.args.source xs ys c.loop-key.len c.in-Some.key S told.top.some told.moved (told.behind blank) (told.top.least key_order S.heap) c.in-At.far c.in-At.is (told.heap key_order S.heap) in
     arrived net st ps preds c.args.source c.args.target c.in-Some.key.node ys (c.loop-key.len - 1) c.in-At.far p.0 p.1 c.if-key-target.true
     (subst (Fit net st ps) long c.requires.fit) (omega arith) (omega arith)
 
@@ -63,7 +63,7 @@ spread-requires c =
     let told = c.in-Some.ensures in
     let long : length c.args.entries.now ≡ length ys = omega arith in
     let fits = S.settled.fits in
-    let p = popped net st ps preds c.args.source xs ys c.loop-key.len c.in-Some.key S told.top.some told.moved (told.behind blank) (told.top.least S.heap) c.in-At.far c.in-At.is (told.heap S.heap) in
+    let p = popped net st ps preds c.args.source xs ys c.loop-key.len c.in-Some.key S told.top.some told.moved (told.behind blank) (told.top.least key_order S.heap) c.in-At.far c.in-At.is (told.heap key_order S.heap) in
     record {
       fit = subst (Fit net st ps) long c.requires.fit;
       sorted = subst (SortedArcs c.args.graph) long c.requires.sorted;
@@ -83,10 +83,10 @@ loop-key-preserved c =
     let S = c.loop-key.invariant.0 in
     let told = c.in-Some.ensures in
     let long : length zs ≡ length ys = omega arith in
-    let p = popped net st ps c.loop-key.preds c.args.source xs ys c.loop-key.len c.in-Some.key S told.top.some told.moved (told.behind blank) (told.top.least S.heap) c.in-At.far c.in-At.is (told.heap S.heap) in (
+    let p = popped net st ps c.loop-key.preds c.args.source xs ys c.loop-key.len c.in-Some.key S told.top.some told.moved (told.behind blank) (told.top.least key_order S.heap) c.in-At.far c.in-At.is (told.heap key_order S.heap) in (
       c.spread.ensures.settling c.args.source p.0,
       missed_kept net st ps ys zs (c.loop-key.len - 1) c.args.target c.spread.ensures.kept long
-          (missed_popped net st ps c.loop-key.preds c.args.source xs ys c.loop-key.len c.in-Some.key S told.top.some told.moved (told.behind blank) (told.top.least S.heap)
+          (missed_popped net st ps c.loop-key.preds c.args.source xs ys c.loop-key.len c.in-Some.key S told.top.some told.moved (told.behind blank) (told.top.least key_order S.heap)
           c.args.target c.loop-key.invariant.1 c.if-key-target.false),
     )
 
