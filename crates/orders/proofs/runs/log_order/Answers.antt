@@ -7,8 +7,8 @@ use Rattle.orders.specs.Orders.{Quoted, fault_of}
 use Rattle.orders.proofs.Logs.{enough}
 use Rattle.orders.proofs.runs.log_order.Goals as goal
 
-pub returns-in_ok-put_no : goal.returns-in_ok-put_no
-returns-in_ok-put_no c =
+pub returns-in_ok-put_no-in-Err : goal.returns-in_ok-put_no-in-Err
+returns-in_ok-put_no-in-Err c =
     let net = c.args.network.now in
     let o = c.args.order in
     let f = c.in-Err.refusal in
@@ -18,7 +18,7 @@ returns-in_ok-put_no c =
     record {
       answer = Err f;
       quoted = subst (λ (x : Option Refusal). Quoted net o x (Err f)) fault c.in-Err.ensures.answer;
-      line = c.in_ok-put_no.ensures ∙ ap (λ n. held c.args.line.now ++ no_line n) c.number.ensures;
+      line = c.in_ok-put_no-in-Err.ensures ∙ ap (λ n. held c.args.line.now ++ no_line n) c.number.ensures;
       serials = refl;
       bound = c.requires.serial;
     }
