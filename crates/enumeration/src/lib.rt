@@ -1,5 +1,7 @@
 // Every pair of paths with no common link, tried one after another: what the cheapest costs. It takes exponential time and
 // is meant for small networks, to compare others with.
+#![tactic(auto)]
+
 mod least;
 mod walks;
 

@@ -1,5 +1,7 @@
 // A weighted directed graph with its arcs listed by tail and by head: what one walks over to find cheapest paths.
 // A graph is made once and never changed.
+#![tactic(auto)]
+
 mod arc;
 mod build;
 mod graph;

@@ -1,5 +1,7 @@
 // A binary heap in the first `len` elements of a slice, which gives the least element first.
 // `x` comes before `y` where `x.cmp(&y)` is `Less`. A call keeps the order of the heap, and refuses a `len` beyond the slice.
+#![tactic(auto)]
+
 ghost use Rattle.std.specs.Prelude.{◌≡◌, ◌+◌, ◌-◌, is_some, if◌then◌else◌, ◌==◌};
 ghost use Rattle.heap.specs.Calls.{Lowers, Peeks, Pops, Pushes};
 

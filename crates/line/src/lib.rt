@@ -1,4 +1,6 @@
 // A line of a log: bytes and decimals, appended one after another.
+#![tactic(auto)]
+
 ghost use Rattle.std.specs.Prelude.{◌≡◌, ◌+◌, ◌/◌, ◌%◌, ◌<◌, ◌≤◌, [], ◌++◌, length, take, decimal, MatchResult};
 ghost use Rattle.line.specs.Decimals.{Highest, TheDecimal};
 ghost use Rattle.line.specs.Held.{Appends, held, room, spaced};
@@ -138,7 +140,7 @@ mod tests {
         let mut line = Line::new(rt.alloc());
         line.text(b"PATH")?;
         line.numbers(&[7, 0, 10, 255])?;
-        assert!(rt; line.bytes() == b"PATH 7 0 10 255");
+        assert!(rt; line.bytes() == b"PATH 7 0 10 255".as_slice());
         Ok(())
     }
 }

@@ -1,4 +1,6 @@
 // A telecommunication network, and how it is read from words of 32 bits and written to them.
+#![tactic(auto)]
+
 mod fault;
 mod laws;
 mod link;

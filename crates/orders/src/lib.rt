@@ -1,3 +1,5 @@
+#![tactic(auto)]
+
 mod log;
 mod order;
 mod quotes;

@@ -1,3 +1,5 @@
+#![tactic(auto)]
+
 // Whole inputs and their logs: the inputs of examples/.
 #[cfg(test)]
 mod tests {

@@ -1,4 +1,6 @@
 // What the cheapest pair costs between every two nodes of a network, for callers in C and C++.
+#![tactic(auto)]
+
 ghost use Rattle.std.specs.Prelude.{◌≡◌, ◌*◌, ◌<◌, ◌≤◌, length};
 ghost use Rattle.network.specs.Limits.{Sound};
 ghost use Rattle.network.specs.Networks.{link_list, node_count};

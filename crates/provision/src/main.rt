@@ -1,4 +1,6 @@
 // Reads a network and orders from standard input, and writes the log to standard output.
+#![tactic(auto)]
+
 use orders::run;
 use std::io;
 use std::io::{Read, Write};

@@ -1,5 +1,5 @@
 -- What the walk back needs and keeps.
-use Rattle.std.specs.Prelude.{◌≡◌, ℕ, ◌+◌, ◌-◌, ◌*◌, ◌<◌, ◌≤◌, min, cond, ◌⊎◌, List, ◌∷◌, length, ◌≢◌, slice_index}
+use Rattle.std.specs.Prelude.{◌≡◌, ℕ, ◌+◌, ◌*◌, ◌<◌, ◌≤◌, min, cond, ◌⊎◌, List, ◌∷◌, length, ◌≢◌, slice_index}
 use Rattle.routing.specs.declared.key.NodeKey.{NodeKey}
 use Rattle.routing.specs.declared.key.Reach.{Reach}
 use Rattle.routing.specs.declared.key.Reach.TheVariants.{At, NotReached}

@@ -7,7 +7,6 @@ use Rattle.routing.specs.contracts.key.NodeKeyOrd.TheImpl as node_key
 use Rattle.routing.specs.contracts.key.NodeKeyOrd.TheImpl.Laws as node_key_laws
 use Rattle.routing.specs.declared.key.Reach.{Reach}
 use Rattle.routing.specs.declared.key.Reach.TheVariants.{At, NotReached}
-use Rattle.routing.specs.declared.key.NodeKey.{NodeKey}
 
 -- x is no farther than y
 abbrev pub NoFarther : Reach → Reach → Type 0

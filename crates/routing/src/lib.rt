@@ -1,3 +1,5 @@
+#![tactic(auto)]
+
 mod dijkstra;
 mod extract;
 mod key;

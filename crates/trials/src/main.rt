@@ -1,4 +1,6 @@
 // Compares the pairs that are found with an enumeration of all pairs, on small generated networks.
+#![tactic(auto)]
+
 mod compare;
 mod draft;
 mod families;

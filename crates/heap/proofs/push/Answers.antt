@@ -1,4 +1,4 @@
-use Rattle.std.proofs.Common.{◌≡◌, ◌+◌, arith}
+use Rattle.std.proofs.Common.{◌+◌, arith}
 use Rattle.heap.proofs.Sifting.{push_heaps}
 use Rattle.heap.proofs.push.Goals as goal
 

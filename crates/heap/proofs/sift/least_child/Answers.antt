@@ -1,4 +1,4 @@
-use Rattle.std.proofs.Common.{◌≡◌, ◌+◌, ◌*◌, arith}
+use Rattle.std.proofs.Common.{◌+◌, ◌*◌, arith}
 use Rattle.heap.proofs.Sifting.{only_child, left_child, right_child}
 use Rattle.heap.proofs.sift.least_child.Goals as goal
 use Rattle.heap.proofs.sift.least_child.Goals.{else-right-len-via-then-right-len+else-before, else-right-len-via-else-right-len}

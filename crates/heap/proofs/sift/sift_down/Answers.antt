@@ -1,4 +1,4 @@
-use Rattle.std.proofs.Common.{◌≡◌, arith}
+use Rattle.std.proofs.Common.{arith}
 use Rattle.heap.proofs.Moves as moves
 use Rattle.heap.proofs.Sifting.{sink_begins, sink_steps, sink_rests, sink_ends}
 use Rattle.heap.proofs.sift.sift_down.Goals as goal

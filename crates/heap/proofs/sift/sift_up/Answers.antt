@@ -1,4 +1,4 @@
-use Rattle.std.proofs.Common.{◌≡◌, ◌-◌, ◌/◌, arith}
+use Rattle.std.proofs.Common.{◌-◌, ◌/◌, arith}
 use Rattle.heap.proofs.Moves as moves
 use Rattle.heap.proofs.Sifting.{rise_begins, rise_steps, rise_rests, rise_tops}
 use Rattle.heap.proofs.sift.sift_up.Goals as goal

@@ -1,4 +1,4 @@
-use Rattle.std.proofs.Common.{◌≡◌, ℕ, ◌<◌, ◌≤◌}
+use Rattle.std.proofs.Common.{ℕ, ◌<◌, ◌≤◌}
 use Rattle.heap.specs.Least.{Moved}
 use Rattle.heap.proofs.Sifting.{Rising}
 use Rattle.heap.proofs.sift.sift_up.Given as goal

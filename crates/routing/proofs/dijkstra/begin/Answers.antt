@@ -10,7 +10,7 @@ use Rattle.routing.specs.declared.key.Reach.TheVariants.{At, NotReached}
 use Rattle.routing.specs.Entries.{blank}
 use Rattle.routing.specs.Settle.{Settling}
 use Rattle.routing.proofs.Ranks.{fresh_heap, not_lower, reached_first}
-use Rattle.routing.proofs.Settles.{started, shuffled, key}
+use Rattle.routing.proofs.Settles.{started, shuffled}
 use Rattle.routing.proofs.dijkstra.begin.Goals as goal
 
 pub loop-k-preserved : goal.loop-k-preserved
