@@ -1,7 +1,7 @@
 -- Following links with marks gives the paths and the pairs of paths, and no others.
 use Rattle.std.proofs.Common.{◌≡◌, ℕ, ◌<◌, Bool, true, false, not, ◌&&◌, eqb, List, [], ◌∷◌, map, length, get_or, set, replicate, sym, ◌∙◌, subst, arith, length-set, get_or-set_same}
 use lib.ListN.{length-replicate}
-use Rattle.std.specs.List.{AllByRecursion as All}
+use Rattle.std.specs.List.{AllByRecursion}
 use Rattle.std.proofs.lemmas.Bool.{and_from, and_parts, both_ways, eq-eqb, eqb-true, not_from_false, not-true}
 use Rattle.paths.specs.Pairs.{Digraph, Absent, Distinct, Walk, Path, Pair}
 use Rattle.routing.specs.Found.{allowed}
@@ -23,7 +23,7 @@ leads_since net free seen u e f t h =
     (and_from (eqb (net.tail e) u) (not (get_or seen (net.head e) false)) (eq-eqb (net.tail e) u t) (not_from_false (get_or seen (net.head e) false) h))
 
 -- a walk stays one where its links are free too
-pub onward_free : (net : Digraph) (free other seen : List Bool) (u : ℕ) (ls : List ℕ) (v : ℕ) → All (λ e. get_or free e false ≡ true → get_or other e false ≡ true) ls →
+pub onward_free : (net : Digraph) (free other seen : List Bool) (u : ℕ) (ls : List ℕ) (v : ℕ) → AllByRecursion (λ e. get_or free e false ≡ true → get_or other e false ≡ true) ls →
     Onward net free seen u ls v → Onward net other seen u ls v
 onward_free net free other seen u [] v a w = w
 onward_free net free other seen u (e ∷ ls) v a w =
@@ -32,7 +32,7 @@ onward_free net free other seen u (e ∷ ls) v a w =
 
 -- none of the nodes
 abbrev Unseen : List Bool → List ℕ → Type 0
-Unseen seen xs = All (λ x. get_or seen x false ≡ false) xs
+Unseen seen xs = AllByRecursion (λ x. get_or seen x false ≡ false) xs
 
 unseen_before : (seen : List Bool) (x : ℕ) → x < length seen → (ys : List ℕ) → Unseen (set seen x true) ys → Absent x ys × Unseen seen ys
 unseen_before seen x l [] a = (tt, tt)
@@ -49,30 +49,30 @@ unseen_first : (n : ℕ) (ys : List ℕ) → Unseen (replicate n false) ys
 unseen_first n [] = tt
 unseen_first n (y ∷ ys) = (unset_first n y, unseen_first n ys)
 
-free_before : (free : List Bool) (e : ℕ) (ls : List ℕ) → All (λ x. get_or (set free e false) x false ≡ true) ls → Absent e ls × All (λ x. get_or free x false ≡ true) ls
+free_before : (free : List Bool) (e : ℕ) (ls : List ℕ) → AllByRecursion (λ x. get_or (set free e false) x false ≡ true) ls → Absent e ls × AllByRecursion (λ x. get_or free x false ≡ true) ls
 free_before free e [] a = (tt, tt)
 free_before free e (x ∷ ls) a =
     let h = clear_before free e x a.0 in
     let k = free_before free e ls a.1 in
     ((h.0, k.0), (h.1, k.1))
 
-free_after : (free : List Bool) (e : ℕ) (ls : List ℕ) → Absent e ls → All (λ x. get_or free x false ≡ true) ls → All (λ x. get_or (set free e false) x false ≡ true) ls
+free_after : (free : List Bool) (e : ℕ) (ls : List ℕ) → Absent e ls → AllByRecursion (λ x. get_or free x false ≡ true) ls → AllByRecursion (λ x. get_or (set free e false) x false ≡ true) ls
 free_after free e [] n a = tt
 free_after free e (x ∷ ls) n a = (kept_clear free e x n.0 a.0, free_after free e ls n.1 a.1)
 
 every : (free other : List Bool) → ((e : ℕ) → get_or free e false ≡ true → get_or other e false ≡ true) → (ls : List ℕ) →
-    All (λ e. get_or free e false ≡ true → get_or other e false ≡ true) ls
+    AllByRecursion (λ e. get_or free e false ≡ true → get_or other e false ≡ true) ls
 every free other h [] = tt
 every free other h (e ∷ ls) = (h e, every free other h ls)
 
-without : (free : List Bool) (e : ℕ) (ls : List ℕ) → Absent e ls → All (λ x. get_or free x false ≡ true → get_or (set free e false) x false ≡ true) ls
+without : (free : List Bool) (e : ℕ) (ls : List ℕ) → Absent e ls → AllByRecursion (λ x. get_or free x false ≡ true → get_or (set free e false) x false ≡ true) ls
 without free e [] n = tt
 without free e (x ∷ ls) n = (kept_clear free e x n.0, without free e ls n.1)
 
 -- a walk and what its marks say
 abbrev Parts : Digraph → List Bool → List Bool → ℕ → List ℕ → ℕ → Type 0
 Parts net free seen u ls v =
-    Walk net u ls v × All (λ e. get_or free e false ≡ true) ls × Distinct (map net.head ls) × Unseen seen (map net.head ls)
+    Walk net u ls v × AllByRecursion (λ e. get_or free e false ≡ true) ls × Distinct (map net.head ls) × Unseen seen (map net.head ls)
 
 module _ (net : Digraph) (n : ℕ) (heads : (e : ℕ) → e < net.size → net.head e < n) where
   pub onward_parts : (free seen : List Bool) (u : ℕ) (ls : List ℕ) (v : ℕ) → length seen ≡ n → Onward net free seen u ls v → Parts net free seen u ls v
@@ -101,7 +101,7 @@ module _ (net : Digraph) (n : ℕ) (heads : (e : ℕ) → e < net.size → net.h
 
   -- a first walk with its marks, and a second path with no link of the first
   pub pair_parts : (free seen : List Bool) (u s t : ℕ) (p q : List ℕ) → PairOnward net free seen u s t p q →
-      Onward net free seen u p t × Path net (allowed free) s q t × All (λ e. Absent e q) p
+      Onward net free seen u p t × Path net (allowed free) s q t × AllByRecursion (λ e. Absent e q) p
   pair_parts free seen u s t [] q w = (w.0, w.1, tt)
   pair_parts free seen u s t (e ∷ p) q w =
       let r = pair_parts (set free e false) (entered net seen e) (net.head e) s t p q w.2 in
@@ -112,7 +112,7 @@ module _ (net : Digraph) (n : ℕ) (heads : (e : ℕ) → e < net.size → net.h
       )
 
   pub parts_pair : (free seen : List Bool) (u s t : ℕ) (p q : List ℕ) → length seen ≡ n →
-      Onward net free seen u p t → Path net (allowed free) s q t → All (λ e. Absent e q) p → PairOnward net free seen u s t p q
+      Onward net free seen u p t → Path net (allowed free) s q t → AllByRecursion (λ e. Absent e q) p → PairOnward net free seen u s t p q
   parts_pair free seen u s t [] q k w Q a = (w, Q)
   parts_pair free seen u s t (e ∷ p) q k w Q a =
       let k' : length (entered net seen e) ≡ n = simp length-set k in

@@ -1,11 +1,11 @@
 -- Pairs do not depend on the order of their paths, nor on what is said of arcs that are not there. All cheapest ones cost
 -- the same.
 use Rattle.std.proofs.Common.{◌≡◌, ℕ, ◌+◌, ◌<◌, Bool, true, List, [], ◌∷◌, sym, ◌∙◌, arith}
-use Rattle.std.specs.List.{AllByRecursion as All}
+use Rattle.std.specs.List.{AllByRecursion}
 use Rattle.std.proofs.ByRecursion.{All-weaker}
 use Rattle.paths.specs.Pairs.{Digraph, Absent, Walk, Path, Pair, Cheapest, CheapestCosts, NoPair, cost}
 
-pub apart_turned : (p q : List ℕ) → All (λ e. Absent e q) p → All (λ e. Absent e p) q
+pub apart_turned : (p q : List ℕ) → AllByRecursion (λ e. Absent e q) p → AllByRecursion (λ e. Absent e p) q
 apart_turned p [] a = tt
 apart_turned p (y ∷ q) a = (
   All-weaker (λ e. Absent e (y ∷ q)) (λ e. y ≡ e → ⊥) (λ e h r. h.0 (sym r)) p a,
@@ -19,7 +19,7 @@ pub cheapest_turned : (net : Digraph) (usable : ℕ → Bool) (s t : ℕ) (p q :
 cheapest_turned net usable s t p q C = record { pair = pair_turned net usable s t p q C.pair; least = λ p' q' P. omega (arith, C.least p' q' P) }
 
 module _ (net : Digraph) (U V : ℕ → Bool) (s t : ℕ) (same : (e : ℕ) → e < net.size → V e ≡ U e) where
-  walk_same : (u : ℕ) (ls : List ℕ) (v : ℕ) → Walk net u ls v → All (λ e. U e ≡ true) ls → All (λ e. V e ≡ true) ls
+  walk_same : (u : ℕ) (ls : List ℕ) (v : ℕ) → Walk net u ls v → AllByRecursion (λ e. U e ≡ true) ls → AllByRecursion (λ e. V e ≡ true) ls
   walk_same u [] v w a = tt
   walk_same u (e ∷ ls) v w a = (same e w.0 ∙ a.0, walk_same (net.head e) ls v w.2 a.1)
 

@@ -1,6 +1,6 @@
 -- A certified set of arcs is at most as dear as any arcs that carry as much: weak duality.
 use Rattle.std.proofs.Common.{◌≡◌, ℕ, zero, suc, ◌+◌, ◌-◌, ◌<◌, ◌≤◌, Bool, true, false, cond, List, [], ◌∷◌, ◌++◌, map, refl, ap, arith}
-use Rattle.std.specs.List.{AllByRecursion as All}
+use Rattle.std.specs.List.{AllByRecursion}
 use Rattle.std.proofs.ByRecursion.{All-append}
 use Rattle.paths.specs.Pairs.{Digraph, Absent, Distinct, sum, cost, Walk, Path, Pair}
 use Rattle.paths.specs.Flow.{up_to, over, Carries, Certified}
@@ -12,7 +12,7 @@ pub telescopes : (net : Digraph) (π : ℕ → ℕ) (u : ℕ) (ls : List ℕ) (v
 telescopes net π u [] v w = omega (arith, ap π w)
 telescopes net π u (e ∷ ls) v w = omega (arith, telescopes net π (net.head e) ls v w.2, ap π w.1)
 
-pub walk_below : (net : Digraph) (u : ℕ) (ls : List ℕ) (v : ℕ) → Walk net u ls v → All (λ e. e < net.size) ls
+pub walk_below : (net : Digraph) (u : ℕ) (ls : List ℕ) (v : ℕ) → Walk net u ls v → AllByRecursion (λ e. e < net.size) ls
 walk_below net u [] v w = tt
 walk_below net u (e ∷ ls) v w = (w.0, walk_below net (net.head e) ls v w.2)
 
@@ -28,7 +28,7 @@ Distinct-map f (x ∷ ls) h = (Absent-map f x ls h.0, Distinct-map f ls h.1)
 Absent-append : (x : ℕ) (ls ms : List ℕ) → Absent x ls → Absent x ms → Absent x (ls ++ ms)
 Absent-append x ls ms h k = All-append (λ y. x ≡ y → ⊥) ls ms h k
 
-distinct_append : (ls ms : List ℕ) → Distinct ls → Distinct ms → All (λ e. Absent e ms) ls → Distinct (ls ++ ms)
+distinct_append : (ls ms : List ℕ) → Distinct ls → Distinct ms → AllByRecursion (λ e. Absent e ms) ls → Distinct (ls ++ ms)
 distinct_append [] ms h k a = k
 distinct_append (x ∷ ls) ms h k a = (Absent-append x ls ms h.0 a.0, distinct_append ls ms h.1 k a.1)
 
@@ -59,14 +59,14 @@ module _ (n : ℕ) (tl hd c : ℕ → ℕ) (usable F : ℕ → Bool) (π : ℕ �
   slack_sum zero h = refl
   slack_sum (suc m) h = omega (arith, slack_sum m (λ e l. h e (omega arith)), slack_used m (h m (omega arith)))
 
-  slack_list : (ls : List ℕ) → All (λ e. e < n) ls → All (λ e. usable e ≡ true) ls →
+  slack_list : (ls : List ℕ) → AllByRecursion (λ e. e < n) ls → AllByRecursion (λ e. usable e ≡ true) ls →
       ((e : ℕ) → e < n → usable e ≡ true → F e ≡ false → π (hd e) ≤ c e + π (tl e)) →
       sum (λ e. π (hd e)) ls ≤ sum c ls + sum (λ e. π (tl e)) ls + sum slack ls
   slack_list [] b a h = omega arith
   slack_list (e ∷ ls) b a h = omega (arith, slack_list ls b.1 a.1 h, slack_any e (h e b.0 a.0))
 
   -- ls and F lead from and to what the potential sees of their ends
-  pub weak_duality : (ls : List ℕ) → Distinct ls → All (λ e. e < n) ls → All (λ e. usable e ≡ true) ls →
+  pub weak_duality : (ls : List ℕ) → Distinct ls → AllByRecursion (λ e. e < n) ls → AllByRecursion (λ e. usable e ≡ true) ls →
       ((e : ℕ) → e < n → F e ≡ true → c e + π (tl e) ≤ π (hd e)) →
       ((e : ℕ) → e < n → usable e ≡ true → F e ≡ false → π (hd e) ≤ c e + π (tl e)) →
       (from to from' to' : ℕ) →
@@ -79,8 +79,8 @@ module _ (n : ℕ) (tl hd c : ℕ → ℕ) (usable F : ℕ → Bool) (π : ℕ �
 -- what both theorems read off a pair: its arcs in one list
 pub record Arcs (net : Digraph) (usable : ℕ → Bool) (ls : List ℕ) : Type 0 where
   pub distinct : Distinct ls
-  pub below : All (λ e. e < net.size) ls
-  pub allowed : All (λ e. usable e ≡ true) ls
+  pub below : AllByRecursion (λ e. e < net.size) ls
+  pub allowed : AllByRecursion (λ e. usable e ≡ true) ls
 
 pub path_arcs : (net : Digraph) (usable : ℕ → Bool) (u v : ℕ) (p : List ℕ) → Path net usable u p v → Arcs net usable p
 path_arcs net usable u v p P = record {

@@ -1,6 +1,6 @@
 -- Sums over lists of numbers and over the numbers below a bound.
 use Rattle.std.proofs.Common.{◌≡◌, ℕ, zero, suc, ◌+◌, ◌<◌, ◌≤◌, cond, eqb, List, [], ◌∷◌, ◌++◌, sym, refl, ap, inl, inr, arith}
-use Rattle.std.specs.List.{AllByRecursion as All}
+use Rattle.std.specs.List.{AllByRecursion}
 use Rattle.std.proofs.lemmas.Bool.{eq-eqb, ne_eqb, cases_eq, cond-true, cond-false}
 use Rattle.paths.specs.Pairs.{Absent, Distinct, sum}
 use Rattle.paths.specs.Flow.{up_to}
@@ -36,7 +36,7 @@ sum-cleared w e [] h = refl
 sum-cleared w e (x ∷ ls) h = omega (arith, sum-cleared w e ls h.1, cleared_off w e x (λ q. h.0 (sym q)))
 
 -- distinct numbers below n weigh at most what all numbers below n do
-pub sum-le-up_to : (w : ℕ → ℕ) (n : ℕ) (ls : List ℕ) → Distinct ls → All (λ e. e < n) ls → sum w ls ≤ up_to w n
+pub sum-le-up_to : (w : ℕ → ℕ) (n : ℕ) (ls : List ℕ) → Distinct ls → AllByRecursion (λ e. e < n) ls → sum w ls ≤ up_to w n
 sum-le-up_to w n [] d b = omega arith
 sum-le-up_to w n (e ∷ ls) d b =
     omega (

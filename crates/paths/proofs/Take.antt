@@ -1,6 +1,6 @@
 -- A set of arcs that carries something, and the paths in it.
 use Rattle.std.proofs.Common.{◌≡◌, ℕ, ◌+◌, ◌<◌, ◌≤◌, Bool, true, false, cond, eqb, List, [], ◌∷◌, sym, refl, arith}
-use Rattle.std.specs.List.{AllByRecursion as All}
+use Rattle.std.specs.List.{AllByRecursion}
 use Rattle.std.proofs.lemmas.Bool.{eq-eqb, ne_eqb, eqb-true, cond-true, cond-false}
 use Rattle.paths.specs.Pairs.{Digraph, cost, Absent, sum, Pair, Cheapest}
 use Rattle.paths.specs.Flow.{over, Carries, Certified}
@@ -14,7 +14,7 @@ at v x = cond (eqb x v) 1 0
 at_same : (v : ℕ) → at v v ≡ 1
 at_same v = cond-true (eqb v v) 1 0 (eq-eqb v v refl)
 
-at_other : (v : ℕ) (B : List ℕ) → All (λ b. v ≡ b → ⊥) B → sum (at v) B ≡ 0
+at_other : (v : ℕ) (B : List ℕ) → AllByRecursion (λ b. v ≡ b → ⊥) B → sum (at v) B ≡ 0
 at_other v [] a = refl
 at_other v (b ∷ B) a = omega (arith, at_other v B a.1, cond-false {A = ℕ} (eqb b v) 1 0 (ne_eqb b v (λ q. a.0 (sym q))))
 

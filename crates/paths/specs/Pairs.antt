@@ -1,6 +1,6 @@
 -- Directed graphs, paths, and the cheapest pair of paths with no common arc.
 use Rattle.std.specs.Prelude.{◌≡◌, ℕ, ◌+◌, ◌<◌, ◌≤◌, Bool, true, List, [], ◌∷◌, map, ◌≢◌, slice_index}
-use Rattle.std.specs.List.{AllByRecursion as All}
+use Rattle.std.specs.List.{AllByRecursion}
 
 -- A directed graph with a weight on each arc. Its arcs are the numbers below `size`; nodes are numbers too.
 pub record Digraph : Type 0 where
@@ -11,7 +11,7 @@ pub record Digraph : Type 0 where
 
 -- x is none of the numbers of the list
 abbrev pub Absent : ℕ → List ℕ → Type 0
-Absent x ys = All (λ y. x ≢ y) ys
+Absent x ys = AllByRecursion (λ y. x ≢ y) ys
 
 -- no number stands twice in the list
 abbrev pub Distinct : List ℕ → Type 0
@@ -39,14 +39,14 @@ nodes net u ls = u ∷ map net.head ls
 -- a path from u to v: it follows usable arcs and visits no node twice
 pub record Path (net : Digraph) (usable : ℕ → Bool) (u : ℕ) (ls : List ℕ) (v : ℕ) : Type 0 where
   pub walk : Walk net u ls v
-  pub allowed : All (λ e. usable e ≡ true) ls
+  pub allowed : AllByRecursion (λ e. usable e ≡ true) ls
   pub simple : Distinct (nodes net u ls)
 
 -- two paths from s to t with no common arc
 pub record Pair (net : Digraph) (usable : ℕ → Bool) (s t : ℕ) (p q : List ℕ) : Type 0 where
   pub one : Path net usable s p t
   pub two : Path net usable s q t
-  pub apart : All (λ e. Absent e q) p
+  pub apart : AllByRecursion (λ e. Absent e q) p
 
 -- a pair that costs no more than any other, both paths together
 pub record Cheapest (net : Digraph) (usable : ℕ → Bool) (s t : ℕ) (p q : List ℕ) : Type 0 where

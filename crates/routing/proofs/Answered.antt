@@ -1,6 +1,6 @@
 -- From the chosen arcs to the answer.
 use Rattle.std.proofs.Common.{◌≡◌, ℕ, zero, suc, ◌<◌, ◌≤◌, Bool, true, false, cond, eqb, ltb, ◌⊎◌, List, [], ◌∷◌, length, get_or, take, sym, refl, ap, ◌∙◌, inl, inr, arith}
-use Rattle.std.specs.List.{AllByRecursion as All}
+use Rattle.std.specs.List.{AllByRecursion}
 use Rattle.std.proofs.lemmas.List.{get_or_past}
 use Rattle.std.proofs.lemmas.Bool.{eq-eqb, ne_eqb, ltb-true, ltb-false, cases_eq, cases_lt, cond-true, cond-false}
 use Rattle.graph.specs.declared.arc.Arc.{Arc}
@@ -53,7 +53,7 @@ first_in p l = by p.len p.links l
     by (suc k) [] l = absurd (omega arith)
     by (suc k) (x ∷ ls) l = refl
 
-firsts_differ : (p q : List ℕ) → 0 < length p → 0 < length q → All (λ e. Absent e q) p → get_or p 0 0 ≡ get_or q 0 0 → ⊥
+firsts_differ : (p q : List ℕ) → 0 < length p → 0 < length q → AllByRecursion (λ e. Absent e q) p → get_or p 0 0 ≡ get_or q 0 0 → ⊥
 firsts_differ [] q l m a r = omega arith
 firsts_differ (x ∷ p) [] l m a r = omega arith
 firsts_differ (x ∷ p) (y ∷ q) l m a r = a.0.0 r

@@ -1,6 +1,6 @@
 -- Two rounds, and what they show.
 use Rattle.std.proofs.Common.{◌≡◌, ℕ, zero, suc, ◌+◌, ◌<◌, Bool, true, false, eqb, ltb, List, [], ◌∷◌, ◌++◌, map, length, get_or, set, MatchBool, sym, refl, ap, ◌∙◌, inl, inr, arith}
-use Rattle.std.specs.List.{AllByRecursion as All}
+use Rattle.std.specs.List.{AllByRecursion}
 use Rattle.std.proofs.lemmas.List.{get_or-set_same, get_or-set_other, length_push}
 use Rattle.std.proofs.ByRecursion.{All-weaker, All-push}
 use Rattle.std.proofs.lemmas.Bool.{ne_eqb, lt-ltb, cases_eq}
@@ -150,7 +150,7 @@ sum_ones : (ls : List ℕ) → sum (λ _. 1) ls ≡ length ls
 sum_ones [] = refl
 sum_ones (x ∷ ls) = omega (arith, sum_ones ls)
 
-heads_below : (net : Digraph) (n : ℕ) → ((e : ℕ) → e < net.size → net.head e < n) → (u : ℕ) (ls : List ℕ) (v : ℕ) → Walk net u ls v → All (λ x. x < n) (map net.head ls)
+heads_below : (net : Digraph) (n : ℕ) → ((e : ℕ) → e < net.size → net.head e < n) → (u : ℕ) (ls : List ℕ) (v : ℕ) → Walk net u ls v → AllByRecursion (λ x. x < n) (map net.head ls)
 heads_below net n h u [] v w = tt
 heads_below net n h u (e ∷ ls) v w = (h e w.0, heads_below net n h (net.head e) ls v w.2)
 
@@ -165,10 +165,10 @@ rising_certified net states pots R = record {
   free = λ e l h g. let z : ◌≡◌ {A = ℕ} 0 1 = cc in absurd (omega arith);
 }
 
-pub along_simple : (net : Digraph) (states pots : List ℕ) → Rising net states pots → (s : ℕ) (ls : List ℕ) (v : ℕ) → Walk net s ls v → All (λ e. in_f states e ≡ true) ls → Distinct (nodes net s ls)
+pub along_simple : (net : Digraph) (states pots : List ℕ) → Rising net states pots → (s : ℕ) (ls : List ℕ) (v : ℕ) → Walk net s ls v → AllByRecursion (λ e. in_f states e ≡ true) ls → Distinct (nodes net s ls)
 along_simple net states pots R = rising_simple net (in_f states) (in_f states) (pot pots) (rising_certified net states pots R) R.dear
 
-pub along_short : (net : Digraph) (states pots : List ℕ) → Rising net states pots → (s : ℕ) (ls : List ℕ) (v : ℕ) → s < length pots → Walk net s ls v → All (λ e. in_f states e ≡ true) ls → length ls < length pots
+pub along_short : (net : Digraph) (states pots : List ℕ) → Rising net states pots → (s : ℕ) (ls : List ℕ) (v : ℕ) → s < length pots → Walk net s ls v → AllByRecursion (λ e. in_f states e ≡ true) ls → length ls < length pots
 along_short net states pots R s ls v l w a =
     omega (
       arith,
@@ -203,12 +203,12 @@ taken_none net was s = record {
 }
 
 -- ---- two paths
-absent_off : (F : ℕ → Bool) (e : ℕ) (q : List ℕ) → F e ≡ false → All (λ i. F i ≡ true) q → Absent e q
+absent_off : (F : ℕ → Bool) (e : ℕ) (q : List ℕ) → F e ≡ false → AllByRecursion (λ i. F i ≡ true) q → Absent e q
 absent_off F e [] h k = tt
 absent_off F e (x ∷ q) h k = (λ r. (let g : F e ≡ true = ap F r ∙ k.0 in let z : ◌≡◌ {A = ℕ} 0 1 = cc in omega arith), absent_off F e q h k.1)
 
 walk_usable : (net : Digraph) (usable F : ℕ → Bool) → ((e : ℕ) → e < net.size → F e ≡ true → usable e ≡ true) →
-    (u : ℕ) (ls : List ℕ) (v : ℕ) → Walk net u ls v → All (λ e. F e ≡ true) ls → All (λ e. usable e ≡ true) ls
+    (u : ℕ) (ls : List ℕ) (v : ℕ) → Walk net u ls v → AllByRecursion (λ e. F e ≡ true) ls → AllByRecursion (λ e. usable e ≡ true) ls
 walk_usable net usable F h u [] v W a = tt
 walk_usable net usable F h u (e ∷ ls) v W a = (h e W.0 a.0, walk_usable net usable F h (net.head e) ls v W.2 a.1)
 
@@ -239,7 +239,7 @@ module _ (net : Digraph) (was : List ℕ) (n s t : ℕ) (N : Ready net was n) (s
 
     pub found_pair : (q states'' : List ℕ) → Taken net states' s q t states'' → Cheapest net (usable was) s t p q
     found_pair q states'' U =
-        let inq : All (λ e. in_f states e ≡ true) q = All-weaker (λ e. in_f states' e ≡ true) (λ e. in_f states e ≡ true) T.less q U.inside in
+        let inq : AllByRecursion (λ e. in_f states e ≡ true) q = All-weaker (λ e. in_f states' e ≡ true) (λ e. in_f states e ≡ true) T.less q U.inside in
         cheapest net (usable was) (in_f states) (pot pots) s t D.certified D.carries p q
         (record {
           one = record {

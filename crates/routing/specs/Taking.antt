@@ -1,6 +1,6 @@
 -- What a whole search is given and finds.
 use Rattle.std.specs.Prelude.{◌≡◌, ℕ, ◌+◌, ◌<◌, ◌≤◌, Bool, true, false, cond, List, [], ◌∷◌, length, slice_index, slice_index_or}
-use Rattle.std.specs.List.{AllByRecursion as All}
+use Rattle.std.specs.List.{AllByRecursion}
 use Rattle.paths.specs.Pairs.{Digraph, sum, Walk}
 use Rattle.paths.specs.Flow.{over, Certified, Carries}
 use Rattle.routing.specs.Entries.{in_f, usable, pot}
@@ -30,8 +30,8 @@ pub record Doubled (net : Digraph) (was states pots : List ℕ) (s t : ℕ) : Ty
 -- the arcs ls lead from s to v and were in F; what is left of F
 pub record Taken (net : Digraph) (was : List ℕ) (s : ℕ) (ls : List ℕ) (v : ℕ) (states : List ℕ) : Type 0 where
   pub walk : Walk net s ls v
-  pub inside : All (λ e. in_f was e ≡ true) ls
-  pub gone : All (λ e. in_f states e ≡ false) ls
+  pub inside : AllByRecursion (λ e. in_f was e ≡ true) ls
+  pub gone : AllByRecursion (λ e. in_f states e ≡ false) ls
   pub less : (e : ℕ) → in_f states e ≡ true → in_f was e ≡ true
   pub carries : (A B : List ℕ) → Carries net (in_f was) (s ∷ A) B → Carries net (in_f states) (v ∷ A) B
   pub same : (e : ℕ) → usable states e ≡ usable was e
@@ -41,7 +41,7 @@ pub record Taken (net : Digraph) (was : List ℕ) (s : ℕ) (ls : List ℕ) (v :
 pub record Leading (net : Digraph) (states : List ℕ) (v t : ℕ) : Type 0 where
   pub A : List ℕ
   pub B : List ℕ
-  pub ends : All (λ b. t ≡ b) B
+  pub ends : AllByRecursion (λ b. t ≡ b) B
   pub leads : Carries net (in_f states) (v ∷ A) (t ∷ B)
 
 -- potentials rise along F, and its arcs end at nodes

@@ -1,6 +1,6 @@
 -- The pairs of the small networks.
 use Rattle.std.proofs.Common.{◌≡◌, ℕ, zero, suc, ◌+◌, ◌<◌, ◌≤◌, Bool, true, false, List, [], ◌∷◌, sym, refl, ap, ◌∙◌, subst, arith}
-use Rattle.std.specs.List.{AllByRecursion as All}
+use Rattle.std.specs.List.{AllByRecursion}
 use Rattle.paths.specs.Pairs.{Absent, CheapestCosts, Digraph, NoPair, Pair, Walk, cost, every}
 use Rattle.paths.specs.Flow.{Carries, Certified, over}
 use Rattle.paths.proofs.Agree.{cheapest_costs}
@@ -70,9 +70,9 @@ one_link net all [] w = absurd (omega arith)
 one_link net all (e ∷ []) w = (e, w.0, refl)
 one_link net all (e ∷ f ∷ ls) w = absurd (omega (arith, (all e w.0).1, (all f w.2.0).0, w.2.1))
 
-shared : (p q : List ℕ) (e : ℕ) → p ≡ e ∷ [] → q ≡ e ∷ [] → All (λ x. Absent x q) p → ⊥
+shared : (p q : List ℕ) (e : ℕ) → p ≡ e ∷ [] → q ≡ e ∷ [] → AllByRecursion (λ x. Absent x q) p → ⊥
 shared p q e i j a =
-    let b : All (λ x. Absent x q) (e ∷ []) = subst (λ (xs : List ℕ). All (λ x. Absent x q) xs) i a in
+    let b : AllByRecursion (λ x. Absent x q) (e ∷ []) = subst (λ (xs : List ℕ). AllByRecursion (λ x. Absent x q) xs) i a in
     let c : Absent e (e ∷ []) = subst (λ (xs : List ℕ). Absent e xs) j b.0 in
     c.0 refl
 
@@ -99,7 +99,7 @@ parallel_3 = certified_costs (link_graph parallel) 0 1 (0 ∷ []) (1 ∷ []) eve
     (omega arith)
 
 -- the working path is not link 1: that is dearer than link 0
-works_on_0 : (e f : ℕ) (p q : List ℕ) → e < 2 → f < 2 → p ≡ e ∷ [] → q ≡ f ∷ [] → All (λ x. Absent x q) p → cost (link_graph parallel) p ≤ cost (link_graph parallel) q → p ≡ 0 ∷ []
+works_on_0 : (e f : ℕ) (p q : List ℕ) → e < 2 → f < 2 → p ≡ e ∷ [] → q ≡ f ∷ [] → AllByRecursion (λ x. Absent x q) p → cost (link_graph parallel) p ≤ cost (link_graph parallel) q → p ≡ 0 ∷ []
 works_on_0 zero f p q l m i j a c = i
 works_on_0 (suc zero) zero p q l m i j a c = absurd (omega (arith, c, ap (cost (link_graph parallel)) i, ap (cost (link_graph parallel)) j))
 works_on_0 (suc zero) (suc zero) p q l m i j a c = absurd (shared p q 1 i j a)

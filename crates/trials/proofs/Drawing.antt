@@ -1,6 +1,6 @@
 -- Links that are added to others.
 use Rattle.std.proofs.Common.{◌≡◌, ℕ, ◌+◌, ◌-◌, ◌<◌, ◌≤◌, List, [], ◌∷◌, ◌++◌, length, get_or, take, sym, refl, ap, ◌∙◌, subst, append_assoc, append-nil, arith, length-append}
-use Rattle.std.specs.List.{AllByRecursion as All}
+use Rattle.std.specs.List.{AllByRecursion}
 use Rattle.std.proofs.ByRecursion.{All-append, All-get_or, All-push, All-weaker}
 use Rattle.std.proofs.lemmas.List.{get_or_append_left, get_or-append_right, take_more}
 use Rattle.network.specs.declared.link.Link.{Link}
@@ -27,12 +27,12 @@ grown_more n low high k before mid after x g d e = record {
 }
 
 -- sound links with others behind them are a network's
-pub sound_grown : (n low high k : ℕ) (before after : List Link) → 2 ≤ n → n ≤ 32 → All (SoundLink n) before → Grown n low high k before after →
+pub sound_grown : (n low high k : ℕ) (before after : List Link) → 2 ≤ n → n ≤ 32 → AllByRecursion (SoundLink n) before → Grown n low high k before after →
     1 ≤ length before + k → length before + k ≤ 128 → Sound n after
 sound_grown n low high k before after two most b g some few =
     let long : length after ≡ length before + k = omega (arith, ap length g.whole, length-append before g.new, g.count) in
-    let all : All (SoundLink n) after =
-    subst (λ (l : List Link). All (SoundLink n) l) (sym g.whole)
+    let all : AllByRecursion (SoundLink n) after =
+    subst (λ (l : List Link). AllByRecursion (SoundLink n) l) (sym g.whole)
     (All-append (SoundLink n) before g.new b (All-weaker (Drawn n low high) (SoundLink n) (λ x d. d.sound) g.new g.each)) in
     record {
       nodes_above = two;
@@ -95,11 +95,11 @@ words_more w i links ws vs us l h v u =
 -- what is drawn from nothing on
 pub spread : (n low high k : ℕ) (before after : List Link) → before ≡ [] → 2 ≤ n → n ≤ 32 → 1 ≤ k → k ≤ 128 → Grown n low high k before after → Spread n low high k after
 spread n low high k before after none two most some few g =
-    let all : All (Drawn n low high) after =
-    subst (λ (l : List Link). All (Drawn n low high) l) (sym (g.whole ∙ ap (λ l. l ++ g.new) none)) g.each in
+    let all : AllByRecursion (Drawn n low high) after =
+    subst (λ (l : List Link). AllByRecursion (Drawn n low high) l) (sym (g.whole ∙ ap (λ l. l ++ g.new) none)) g.each in
     let empty : length before ≡ 0 = ap length none in
     record {
-      sound = sound_grown n low high k before after two most (subst (λ (l : List Link). All (SoundLink n) l) (sym none) tt) g (omega arith) (omega arith);
+      sound = sound_grown n low high k before after two most (subst (λ (l : List Link). AllByRecursion (SoundLink n) l) (sym none) tt) g (omega arith) (omega arith);
       costs = λ e l. let d = All-get_or (Drawn n low high) after e blank l all in (d.above, d.below);
       many = omega (arith, ap length g.whole, length-append before g.new, g.count);
     }

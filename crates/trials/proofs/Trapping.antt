@@ -1,6 +1,6 @@
 -- On a trap no cheapest pair has the path that is cheapest.
 use Rattle.std.proofs.Common.{◌≡◌, ℕ, ◌<◌, ◌≤◌, Bool, true, ◌⊎◌, List, [], ◌∷◌, length, sym, refl, ap, ◌∙◌, subst, inl, inr, ⊎_elim, arith}
-use Rattle.std.specs.List.{AllByRecursion as All}
+use Rattle.std.specs.List.{AllByRecursion}
 use Rattle.std.proofs.lemmas.Bool.{cases_eq}
 use Rattle.network.specs.declared.link.Link.{Link}
 use Rattle.paths.specs.Pairs.{Absent, Cheapest, Digraph, Pair, Walk, cost}
@@ -44,7 +44,7 @@ module _ (links : List Link) (T : Trapped links) (long : 5 ≤ length links) whe
 
     missed : (p q : List ℕ) → Cheapest net usable 0 3 p q → p ≡ 0 ∷ 1 ∷ 2 ∷ [] → ⊥
     missed p q C e =
-        let apart : All (λ x. Absent x q) (0 ∷ 1 ∷ 2 ∷ []) = subst (λ (r : List ℕ). All (λ x. Absent x q) r) e C.pair.apart in
+        let apart : AllByRecursion (λ x. Absent x q) (0 ∷ 1 ∷ 2 ∷ []) = subst (λ (r : List ℕ). AllByRecursion (λ x. Absent x q) r) e C.pair.apart in
         omega (
           arith,
           dear_walk 0 (inl refl) q apart.0 apart.1.0 apart.1.1.0 C.pair.two.walk,

@@ -1,6 +1,6 @@
 -- Links that are made up.
 use Rattle.std.specs.Prelude.{◌≡◌, ℕ, ◌<◌, ◌≤◌, List, ◌++◌, length, slice_index_or}
-use Rattle.std.specs.List.{AllByRecursion as All}
+use Rattle.std.specs.List.{AllByRecursion}
 use Rattle.network.specs.declared.link.Link.{Link}
 use Rattle.network.specs.Limits.{Sound, SoundLink, blank}
 
@@ -15,7 +15,7 @@ pub record Grown (n low high more : ℕ) (before after : List Link) : Type 0 whe
   pub new : List Link
   pub whole : after ≡ before ++ new
   pub count : length new ≡ more
-  pub each : All (Drawn n low high) new
+  pub each : AllByRecursion (Drawn n low high) new
 
 -- each link costs from low to high
 abbrev pub CostsWithin : ℕ → ℕ → List Link → Type 0

@@ -3,7 +3,7 @@ ghost use Rattle.std.specs.Prelude.{◌≡◌, ◌+◌, ◌<◌, ◌≤◌, IfOk
 ghost use Rattle.network.specs.Format.{ends_word, header_word, limits_word, network_words};
 ghost use Rattle.network.specs.Limits.{Sound, SoundLink};
 ghost use Rattle.network.specs.Networks.{link_list, node_count};
-ghost use Rattle.std.specs.List.{AllByRecursion as All};
+ghost use Rattle.std.specs.List.{AllByRecursion};
 ghost use Rattle.trials.specs.Drafts.{Drawn, Grown, Spread};
 ghost use Rattle.trials.specs.Kinds.{OfKind};
 ghost use Rattle.trials.specs.Traps.{Misleads, Trap};
@@ -39,7 +39,7 @@ fn random_link(nodes: u8, low: u16, high: u16, generator: &mut Generator) -> Lin
 // Five links that make a trap: the cheapest path takes a link from each of the two paths of the only pair.
 fn diamond(generator: &mut Generator) -> [Link; 5]
     ensures trap { Trap result }
-    ensures sound { All (SoundLink 4) result }
+    ensures sound { AllByRecursion (SoundLink 4) result }
 {
     let first = generator.between(1, 5);
     let second = generator.between(1, 5);
