@@ -1,5 +1,5 @@
 -- A binary heap in the first n elements of a list, the least first.
--- The order is any total one that agrees with the answers of `cmp`, of which R holds.
+-- R answers how two elements compare, and o says that it is a total order; the calls take the element type's `cmp` for R.
 use Rattle.std.specs.Prelude.{◌≡◌, ℕ, ◌+◌, ◌*◌, ◌<◌, ◌≤◌, Bool, false, List, length, take, drop, slice_index_or}
 use Rattle.std.specs.declared.cmp.Ordering.{Ordering}
 use Rattle.std.specs.Cmp.{IsTotalOrder}
