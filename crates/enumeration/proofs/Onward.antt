@@ -1,35 +1,70 @@
 -- Following links with marks gives the paths and the pairs of paths, and no others.
-use Rattle.std.proofs.Common.{◌≡◌, ℕ, ◌<◌, Bool, true, false, not, ◌&&◌, eqb, List, [], ◌∷◌, map, length, get_or, set, replicate, sym, ◌∙◌, subst, arith, length-set, get_or-set_same}
+use Rattle.std.proofs.Common.{◌≡◌, ℕ, ◌+◌, ◌<◌, Bool, true, false, List, [], ◌∷◌, map, length, get_or, set, replicate, refl, ap, ◌∙◌, arith, length-set}
 use lib.ListN.{length-replicate}
 use Rattle.std.specs.List.{AllByRecursion}
-use Rattle.std.proofs.lemmas.Bool.{and_from, and_parts, both_ways, eq-eqb, eqb-true, not_from_false, not-true}
-use Rattle.paths.specs.Pairs.{Digraph, Absent, Distinct, Walk, Path, Pair}
+use Rattle.std.proofs.lemmas.Bool.Decides.{nat_tests}
+use Rattle.paths.specs.Pairs.{Digraph, Absent, Distinct, Walk, Path, Pair, cost}
 use Rattle.routing.specs.Found.{allowed}
-use Rattle.enumeration.specs.Walks.{leads_on, entered, Onward, PairOnward, only}
-use Rattle.enumeration.proofs.Marks.{clear_before, kept_clear, set_after, unset_after, unset_before, unset_first}
+use Rattle.enumeration.specs.declared.trail.Trail.{Trail}
+use Rattle.enumeration.specs.Walks.{Completed, Each, Onward, begun, completed_cost, followed, leads_on, left, only}
+use Rattle.enumeration.proofs.Marks.{clear_before, kept_clear, unset_after, unset_before, unset_first}
 
 -- what it says of a link that it leads on
-pub leads : (net : Digraph) (free seen : List Bool) (u e : ℕ) → leads_on net free seen u e ≡ true →
-    (get_or free e false ≡ true) × (net.tail e ≡ u) × (get_or seen (net.head e) false ≡ false)
-leads net free seen u e h =
-    let a = and_parts (get_or free e false) (eqb (net.tail e) u && not (get_or seen (net.head e) false)) h in
-    let b = and_parts (eqb (net.tail e) u) (not (get_or seen (net.head e) false)) a.1 in
-    (a.0, eqb-true (net.tail e) u b.0, not-true (get_or seen (net.head e) false) b.1)
+pub leads : (trail : Trail) (e u v : ℕ) → leads_on trail e u v ≡ true →
+    (get_or trail.free e false ≡ true) × (u ≡ trail.node) × (get_or trail.seen v false ≡ false)
+leads trail e u v h = (grind (arith, nat_tests), grind (arith, nat_tests), grind (arith, nat_tests))
 
-pub leads_since : (net : Digraph) (free seen : List Bool) (u e : ℕ) → get_or free e false ≡ true → net.tail e ≡ u → get_or seen (net.head e) false ≡ false →
-    leads_on net free seen u e ≡ true
-leads_since net free seen u e f t h =
-    and_from (get_or free e false) (eqb (net.tail e) u && not (get_or seen (net.head e) false)) f
-    (and_from (eqb (net.tail e) u) (not (get_or seen (net.head e) false)) (eq-eqb (net.tail e) u t) (not_from_false (get_or seen (net.head e) false) h))
+leads_since : (trail : Trail) (e u v : ℕ) → get_or trail.free e false ≡ true → u ≡ trail.node → get_or trail.seen v false ≡ false →
+    leads_on trail e u v ≡ true
+leads_since trail e u v f t h = grind (arith, nat_tests)
 
--- a walk stays one where its links are free too
-pub onward_free : (net : Digraph) (free other seen : List Bool) (u : ℕ) (ls : List ℕ) (v : ℕ) → AllByRecursion (λ e. get_or free e false ≡ true → get_or other e false ≡ true) ls →
-    Onward net free seen u ls v → Onward net other seen u ls v
-onward_free net free other seen u [] v a w = w
-onward_free net free other seen u (e ∷ ls) v a w =
-    let h = leads net free seen u e w.1 in
-    (w.0, leads_since net other seen u e (a.0 h.0) h.1 h.2, onward_free net free other (entered net seen e) (net.head e) ls v a.1 w.2)
+-- ---- more free links
+-- what is free is free in the other list too
+abbrev Wider : List Bool → List Bool → Type 0
+Wider free other = (e : ℕ) → get_or free e false ≡ true → get_or other e false ≡ true
 
+wider_taken : (free other : List Bool) (e : ℕ) → Wider free other → Wider (set free e false) (set other e false)
+wider_taken free other e h x k = let b = clear_before free e x k in kept_clear other e x b.0 (h x b.1)
+
+wider_left : (free other : List Bool) (ls : List ℕ) → Wider free other → Wider (left free ls) (left other ls)
+wider_left free other [] h = h
+wider_left free other (e ∷ ls) h = wider_left (set free e false) (set other e false) ls (wider_taken free other e h)
+
+left_wider : (free : List Bool) (ls : List ℕ) → Wider (left free ls) free
+left_wider free [] x k = k
+left_wider free (e ∷ ls) x k = (clear_before free e x (left_wider (set free e false) ls x k)).1
+
+onward_wider : (net : Digraph) (trail : Trail) (other : List Bool) (ls : List ℕ) (t : ℕ) → Wider trail.free other → Onward net trail ls t →
+    Onward net (record { free = other; seen = trail.seen; node = trail.node }) ls t
+onward_wider net trail other [] t h w = w
+onward_wider net trail other (e ∷ ls) t h w =
+    let k = leads trail e (net.tail e) (net.head e) w.1 in (
+      w.0,
+      leads_since (record { free = other; seen = trail.seen; node = trail.node }) e (net.tail e) (net.head e) (h e k.0) k.1 k.2,
+      onward_wider net (followed trail e (net.head e)) (set other e false) ls t (wider_taken trail.free other e h) w.2,
+    )
+
+each_wider : (net : Digraph) (s t : ℕ) (free other : List Bool) (qs : List (List ℕ)) → Wider free other → Each net s t free qs → Each net s t other qs
+each_wider net s t free other [] h w = tt
+each_wider net s t free other (q ∷ qs) h w =
+    (onward_wider net (begun free s) other q t h w.0, each_wider net s t (left free q) (left other q) qs (wider_left free other q h) w.1)
+
+-- what completes a trail has paths from the source that cost no more
+pub others_complete : (net : Digraph) (s t fewer : ℕ) (trail : Trail) (ls : List ℕ) (qs : List (List ℕ)) → Completed net s t (fewer + 1) trail (ls, qs) →
+    (x : List ℕ × List (List ℕ)) × Completed net s t fewer (begun trail.free s) x × (qs ≡ x.0 ∷ x.1)
+others_complete net s t fewer trail ls [] w = absurd (omega (arith, w.2))
+others_complete net s t fewer trail ls (q ∷ qs) w =
+    let wide = left_wider trail.free ls in (
+      (q, qs),
+      (
+        onward_wider net (begun (left trail.free ls) s) trail.free q t wide w.1.0,
+        each_wider net s t (left (left trail.free ls) q) (left trail.free q) qs (wider_left (left trail.free ls) trail.free q wide) w.1.1,
+        omega (arith, w.2),
+      ),
+      refl,
+    )
+
+-- ---- trails and paths
 -- none of the nodes
 abbrev Unseen : List Bool → List ℕ → Type 0
 Unseen seen xs = AllByRecursion (λ x. get_or seen x false ≡ false) xs
@@ -49,101 +84,92 @@ unseen_first : (n : ℕ) (ys : List ℕ) → Unseen (replicate n false) ys
 unseen_first n [] = tt
 unseen_first n (y ∷ ys) = (unset_first n y, unseen_first n ys)
 
-free_before : (free : List Bool) (e : ℕ) (ls : List ℕ) → AllByRecursion (λ x. get_or (set free e false) x false ≡ true) ls → Absent e ls × AllByRecursion (λ x. get_or free x false ≡ true) ls
+-- all the links are free
+abbrev Free : List Bool → List ℕ → Type 0
+Free free ls = AllByRecursion (λ e. get_or free e false ≡ true) ls
+
+free_before : (free : List Bool) (e : ℕ) (ls : List ℕ) → Free (set free e false) ls → Absent e ls × Free free ls
 free_before free e [] a = (tt, tt)
 free_before free e (x ∷ ls) a =
     let h = clear_before free e x a.0 in
     let k = free_before free e ls a.1 in
     ((h.0, k.0), (h.1, k.1))
 
-free_after : (free : List Bool) (e : ℕ) (ls : List ℕ) → Absent e ls → AllByRecursion (λ x. get_or free x false ≡ true) ls → AllByRecursion (λ x. get_or (set free e false) x false ≡ true) ls
+free_after : (free : List Bool) (e : ℕ) (ls : List ℕ) → Absent e ls → Free free ls → Free (set free e false) ls
 free_after free e [] n a = tt
 free_after free e (x ∷ ls) n a = (kept_clear free e x n.0 a.0, free_after free e ls n.1 a.1)
 
-every : (free other : List Bool) → ((e : ℕ) → get_or free e false ≡ true → get_or other e false ≡ true) → (ls : List ℕ) →
-    AllByRecursion (λ e. get_or free e false ≡ true → get_or other e false ≡ true) ls
-every free other h [] = tt
-every free other h (e ∷ ls) = (h e, every free other h ls)
+left_before : (free : List Bool) (p q : List ℕ) → Free (left free p) q → Free free q × AllByRecursion (λ e. Absent e q) p
+left_before free [] q a = (a, tt)
+left_before free (e ∷ p) q a =
+    let r = left_before (set free e false) p q a in
+    let b = free_before free e q r.0 in
+    (b.1, (b.0, r.1))
 
-without : (free : List Bool) (e : ℕ) (ls : List ℕ) → Absent e ls → AllByRecursion (λ x. get_or free x false ≡ true → get_or (set free e false) x false ≡ true) ls
-without free e [] n = tt
-without free e (x ∷ ls) n = (kept_clear free e x n.0, without free e ls n.1)
+left_after : (free : List Bool) (p q : List ℕ) → Free free q → AllByRecursion (λ e. Absent e q) p → Free (left free p) q
+left_after free [] q a n = a
+left_after free (e ∷ p) q a n = left_after (set free e false) p q (free_after free e q n.0 a) n.1
 
--- a walk and what its marks say
-abbrev Parts : Digraph → List Bool → List Bool → ℕ → List ℕ → ℕ → Type 0
-Parts net free seen u ls v =
-    Walk net u ls v × AllByRecursion (λ e. get_or free e false ≡ true) ls × Distinct (map net.head ls) × Unseen seen (map net.head ls)
+module _ (net : Digraph) where
+  -- links to different nodes are different
+  apart : (e : ℕ) (ls : List ℕ) → Absent (net.head e) (map net.head ls) → Absent e ls
+  apart e [] n = tt
+  apart e (x ∷ ls) n = (λ q. n.0 (ap net.head q), apart e ls n.1)
 
-module _ (net : Digraph) (n : ℕ) (heads : (e : ℕ) → e < net.size → net.head e < n) where
-  pub onward_parts : (free seen : List Bool) (u : ℕ) (ls : List ℕ) (v : ℕ) → length seen ≡ n → Onward net free seen u ls v → Parts net free seen u ls v
-  onward_parts free seen u [] v k w = (w, tt, tt, tt)
-  onward_parts free seen u (e ∷ ls) v k w =
-      let h = leads net free seen u e w.1 in
-      let r = onward_parts free (entered net seen e) (net.head e) ls v (simp length-set k) w.2 in
-      let b = unseen_before seen (net.head e) (omega (arith, heads e w.0)) (map net.head ls) r.3 in
-      ((w.0, h.1, r.0), (h.0, r.1), (b.0, r.2), (h.2, b.1))
+  -- a walk and what the marks say of it
+  abbrev Parts : Trail → List ℕ → ℕ → Type 0
+  Parts trail ls t =
+      Walk net trail.node ls t × Free trail.free ls × Distinct (map net.head ls) × Unseen trail.seen (map net.head ls)
 
-  -- a link to a seen node is none of a walk's
-  absent : (free seen : List Bool) (u : ℕ) (ls : List ℕ) (v e : ℕ) → length seen ≡ n → get_or seen (net.head e) false ≡ true → Onward net free seen u ls v → Absent e ls
-  absent free seen u [] v e k s w = tt
-  absent free seen u (x ∷ ls) v e k s w = (
-    λ q. both_ways (get_or seen (net.head e) false) (subst (λ (y : ℕ). get_or seen (net.head y) false ≡ false) (sym q) (leads net free seen u x w.1).2) s,
-    absent free (entered net seen x) (net.head x) ls v e (simp length-set k) (set_after seen (net.head x) (net.head e) (omega (arith, heads x w.0)) s) w.2,
-  )
+  module _ (heads : (e : ℕ) → e < net.size → net.head e < 32) where
+    onward_parts : (trail : Trail) (ls : List ℕ) (t : ℕ) → length trail.seen ≡ 32 → Onward net trail ls t → Parts trail ls t
+    onward_parts trail [] t k w = (w, tt, tt, tt)
+    onward_parts trail (e ∷ ls) t k w =
+        let h = leads trail e (net.tail e) (net.head e) w.1 in
+        let r = onward_parts (followed trail e (net.head e)) ls t (simp length-set k) w.2 in
+        let b = unseen_before trail.seen (net.head e) (omega (arith, heads e w.0)) (map net.head ls) r.3 in
+        ((w.0, h.1, r.0), (h.0, (free_before trail.free e ls r.1).1), (b.0, r.2), (h.2, b.1))
 
-  parts_onward : (free seen : List Bool) (u : ℕ) (ls : List ℕ) (v : ℕ) → Parts net free seen u ls v → Onward net free seen u ls v
-  parts_onward free seen u [] v p = p.0
-  parts_onward free seen u (e ∷ ls) v p = (
+  parts_onward : (trail : Trail) (ls : List ℕ) (t : ℕ) → Parts trail ls t → Onward net trail ls t
+  parts_onward trail [] t p = p.0
+  parts_onward trail (e ∷ ls) t p = (
     p.0.0,
-    leads_since net free seen u e p.1.0 p.0.1 p.3.0,
-    parts_onward free (entered net seen e) (net.head e) ls v (p.0.2, p.1.1, p.2.1, unseen_after seen (net.head e) (map net.head ls) p.2.0 p.3.1),
+    leads_since trail e (net.tail e) (net.head e) p.1.0 p.0.1 p.3.0,
+    parts_onward (followed trail e (net.head e)) ls t
+        (p.0.2, free_after trail.free e ls (apart e ls p.2.0) p.1.1, p.2.1, unseen_after trail.seen (net.head e) (map net.head ls) p.2.0 p.3.1),
   )
-
-  -- a first walk with its marks, and a second path with no link of the first
-  pub pair_parts : (free seen : List Bool) (u s t : ℕ) (p q : List ℕ) → PairOnward net free seen u s t p q →
-      Onward net free seen u p t × Path net (allowed free) s q t × AllByRecursion (λ e. Absent e q) p
-  pair_parts free seen u s t [] q w = (w.0, w.1, tt)
-  pair_parts free seen u s t (e ∷ p) q w =
-      let r = pair_parts (set free e false) (entered net seen e) (net.head e) s t p q w.2 in
-      let b = free_before free e q r.1.allowed in (
-        (w.0, w.1, onward_free net (set free e false) free (entered net seen e) (net.head e) p t (every (set free e false) free (λ x h. (clear_before free e x h).1) p) r.0),
-        record { walk = r.1.walk; allowed = b.1; simple = r.1.simple },
-        (b.0, r.2),
-      )
-
-  pub parts_pair : (free seen : List Bool) (u s t : ℕ) (p q : List ℕ) → length seen ≡ n →
-      Onward net free seen u p t → Path net (allowed free) s q t → AllByRecursion (λ e. Absent e q) p → PairOnward net free seen u s t p q
-  parts_pair free seen u s t [] q k w Q a = (w, Q)
-  parts_pair free seen u s t (e ∷ p) q k w Q a =
-      let k' : length (entered net seen e) ≡ n = simp length-set k in
-      let here : get_or (entered net seen e) (net.head e) false ≡ true = get_or-set_same seen (net.head e) true false (omega (arith, heads e w.0)) in
-      let gone = absent free (entered net seen e) (net.head e) p t e k' here w.2 in (
-        w.0,
-        w.1,
-        parts_pair (set free e false) (entered net seen e) (net.head e) s t p q k'
-            (onward_free net free (set free e false) (entered net seen e) (net.head e) p t (without free e p gone) w.2)
-            (record { walk = Q.walk; allowed = free_after free e q a.0 Q.allowed; simple = Q.simple }) a.1,
-      )
 
 pub length_only : (s : ℕ) → length (only s) ≡ 32
 length_only s = length-set (replicate 32 false) s true ∙ length-replicate 32 false
 
-module _ (net : Digraph) (heads : (e : ℕ) → e < net.size → net.head e < 32) (free : List Bool) (s t : ℕ) (inside : s < 32) where
-  -- from where only the source is seen, walks are paths
-  pub onward_path : (ls : List ℕ) → Onward net free (only s) s ls t → Path net (allowed free) s ls t
-  onward_path ls w =
-      let r = onward_parts net 32 heads free (only s) s ls t (length_only s) w in
+module _ (net : Digraph) (heads : (e : ℕ) → e < net.size → net.head e < 32) (s t : ℕ) (inside : s < 32) where
+  -- from where only the source is seen, trails are paths
+  onward_path : (free : List Bool) (ls : List ℕ) → Onward net (begun free s) ls t → Path net (allowed free) s ls t
+  onward_path free ls w =
+      let r = onward_parts net heads (begun free s) ls t (length_only s) w in
       record { walk = r.0; allowed = r.1; simple = ((unseen_before (replicate 32 false) s (omega (arith, length-replicate 32 false)) (map net.head ls) r.3).0, r.2) }
 
-  pub path_onward : (ls : List ℕ) → Path net (allowed free) s ls t → Onward net free (only s) s ls t
-  path_onward ls P =
-      parts_onward net 32 heads free (only s) s ls t
+  path_onward : (free : List Bool) (ls : List ℕ) → Path net (allowed free) s ls t → Onward net (begun free s) ls t
+  path_onward free ls P =
+      parts_onward net (begun free s) ls t
       (P.walk, P.allowed, P.simple.1, unseen_after (replicate 32 false) s (map net.head ls) P.simple.0 (unseen_first 32 (map net.head ls)))
 
-  pub onward_pair : (p q : List ℕ) → PairOnward net free (only s) s s t p q → Pair net (allowed free) s t p q
-  onward_pair p q w =
-      let r = pair_parts net 32 heads free (only s) s s t p q w in
-      record { one = onward_path p r.0; two = r.1; apart = r.2 }
+  -- and with one path more they are pairs
+  pub completed_pair : (free : List Bool) (p : List ℕ) (qs : List (List ℕ)) → Completed net s t 1 (begun free s) (p, qs) →
+      (q : List ℕ) × Pair net (allowed free) s t p q × (completed_cost net (p, qs) ≡ cost net p + cost net q)
+  completed_pair free p [] w = absurd (omega (arith, w.2))
+  completed_pair free p (q ∷ _ ∷ _) w = absurd (omega (arith, w.2))
+  completed_pair free p (q ∷ []) w =
+      let Q = onward_path (left free p) q w.1.0 in
+      let b = left_before free p q Q.allowed in (
+        q,
+        record { one = onward_path free p w.0; two = record { walk = Q.walk; allowed = b.0; simple = Q.simple }; apart = b.1 },
+        omega arith,
+      )
 
-  pub pair_onward : (p q : List ℕ) → Pair net (allowed free) s t p q → PairOnward net free (only s) s s t p q
-  pair_onward p q P = parts_pair net 32 heads free (only s) s s t p q (length_only s) (path_onward p P.one) P.two P.apart
+  pub pair_completed : (free : List Bool) (p q : List ℕ) → Pair net (allowed free) s t p q → Completed net s t 1 (begun free s) (p, q ∷ [])
+  pair_completed free p q P = (
+    path_onward free p P.one,
+    (path_onward (left free p) q (record { walk = P.two.walk; allowed = left_after free p q P.two.allowed P.apart; simple = P.two.simple }), tt),
+    refl,
+  )

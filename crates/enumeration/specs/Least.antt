@@ -1,5 +1,5 @@
 -- The least of some costs, of which there may be none.
-use Rattle.std.specs.Prelude.{◌≡◌, ℕ, ◌+◌, ◌≤◌, min, Some, None, Option}
+use Rattle.std.specs.Prelude.{◌≡◌, ℕ, ◌≤◌, min, Some, None, Option}
 
 -- the answer is the least cost of what has the property, or none where nothing has it
 abbrev pub Least : {X : Type 0} → (X → Type 0) → (X → ℕ) → Option ℕ → Type 0
@@ -11,13 +11,3 @@ abbrev pub smaller : Option ℕ → Option ℕ → Option ℕ
 smaller None b = b
 smaller (Some x) None = Some x
 smaller (Some x) (Some y) = Some (min x y)
-
--- a cost with w added
-abbrev pub dearer : ℕ → Option ℕ → Option ℕ
-dearer w None = None
-dearer w (Some c) = Some (w + c)
-
--- a cost that is there is at most m
-abbrev pub AtMost : ℕ → Option ℕ → Type 0
-AtMost m None = Unit {0}
-AtMost m (Some c) = c ≤ m

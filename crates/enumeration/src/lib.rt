@@ -2,7 +2,7 @@
 // is meant for small networks, to compare others with.
 #![tactic(auto)]
 
-mod least;
-mod walks;
+mod search;
+mod trail;
 
-pub use walks::least_pair_cost;
+pub use search::least_pair_cost;

@@ -1,2 +1,2 @@
-mod Listings
+pub mod Listings
 pub mod Graphs

@@ -1,34 +1,25 @@
--- What an index of arcs by one of their ends holds: `ends e` is the node at that end of the arc e, below m.
-use Rattle.std.specs.Prelude.{◌≡◌, ℕ, zero, suc, cond, List, [], ◌∷◌, ◌++◌, length, vec_items, ◌==◌}
-use Rattle.graph.specs.Ends.{ends_of}
-use Rattle.graph.specs.declared.arc.Arc.{Arc}
-use Rattle.graph.specs.declared.index.End.{End}
-use Rattle.graph.specs.declared.index.Index.{Index}
+-- How arcs are listed by one of their ends: `ends e` is the node at that end of the arc e, below size.
+use Rattle.std.specs.Prelude.{◌≡◌, ℕ, ◌+◌, ◌<◌, List, map, filter, flat_map, length, slice_index, ◌==◌}
+use Rattle.std.specs.List.{range_with_len}
 
--- the arcs of the node v, in ascending order
+-- the arcs of the node v, in rising order
 abbrev pub of_node : (ℕ → ℕ) → ℕ → ℕ → List ℕ
-of_node ends v zero = []
-of_node ends v (suc m) = of_node ends v m ++ cond (ends m == v) (m ∷ []) []
+of_node ends v size = filter (λ e. ends e == v) (range_with_len 0 size)
+
+-- list is of the arcs of the node v: each of them stands in it, and no other arc
+pub record ListsArcs (ends : ℕ → ℕ) (size v : ℕ) (list : List ℕ) : Type 0 where
+  pub complete : (e : ℕ) → e < size → ends e ≡ v → (p : ℕ) × (p < length list) × (slice_index list p ≡ e)
+  pub sound : (p : ℕ) → p < length list → (slice_index list p < size) × (ends (slice_index list p) ≡ v)
 
 -- the arcs of the nodes below n, node by node
 abbrev pub by_node : (ℕ → ℕ) → ℕ → ℕ → List ℕ
-by_node ends m zero = []
-by_node ends m (suc v) = by_node ends m v ++ of_node ends v m
+by_node ends size n = flat_map (λ v. of_node ends v size) (range_with_len 0 n)
 
 -- where the arcs of each node below n begin in that list
 abbrev pub starts : (ℕ → ℕ) → ℕ → ℕ → List ℕ
-starts ends m zero = []
-starts ends m (suc v) = starts ends m v ++ length (by_node ends m v) ∷ []
+starts ends size n = map (λ v. length (by_node ends size v)) (range_with_len 0 n)
 
--- the arcs of n nodes by one of their ends
-abbrev pub order_by : End → List Arc → ℕ → List ℕ
-order_by end arcs n = by_node (ends_of end arcs) (length arcs) n
-
--- where those of each node begin, and where the last ones stop
-abbrev pub first_by : End → List Arc → ℕ → List ℕ
-first_by end arcs n = starts (ends_of end arcs) (length arcs) (suc n)
-
--- x is the index of the arcs of n nodes by one of their ends
-pub record Lists (end : End) (arcs : List Arc) (n : ℕ) (x : Index) : Type 0 where
-  pub first : vec_items x.first ≡ first_by end arcs n
-  pub order : vec_items x.order ≡ order_by end arcs n
+-- `first` and `order` are the index of the arcs of n nodes: where in `order` those of each node begin, and where the last ones stop
+pub record Lists (ends : ℕ → ℕ) (size n : ℕ) (first order : List ℕ) : Type 0 where
+  pub begins : first ≡ starts ends size (n + 1)
+  pub numbers : order ≡ by_node ends size n

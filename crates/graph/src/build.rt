@@ -2,13 +2,13 @@ ghost use Rattle.graph.specs.Graphs.{Made};
 ghost use Rattle.graph.specs.declared.build.GraphFault.TheVariants.{NoMemory};
 ghost use Rattle.std.specs.Prelude.{◌≡◌};
 
-use crate::index::{End, index_arcs};
+use crate::index::Index;
 use crate::limits::within_limits;
 use crate::{Arc, Graph};
 use std::alloc::{AllocError, Global};
 
 // Why no graph was made.
-#[derive(Clone, Copy, Debug)]
+#[derive(Clone, Copy, PartialEq, Eq, Debug)]
 pub enum GraphFault {
     OutOfLimits,
     NoMemory,
@@ -30,8 +30,8 @@ impl Graph {
         if !within_limits(nodes, &arcs) {
             return Err(GraphFault::OutOfLimits);
         }
-        let leaving = index_arcs(nodes, &arcs, End::Tail, heap)?;
-        let entering = index_arcs(nodes, &arcs, End::Head, heap)?;
+        let leaving = Index::new(nodes, &arcs, |arc| arc.tail, heap)?;
+        let entering = Index::new(nodes, &arcs, |arc| arc.head, heap)?;
         Ok(Graph {
             nodes,
             arcs,

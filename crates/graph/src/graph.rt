@@ -1,7 +1,6 @@
-ghost use Rattle.std.specs.Prelude.{◌≡◌, ℕ, ◌<◌, ◌≤◌, length, slice_index_or};
-ghost use Rattle.graph.specs.Arcs.{Sound, blank};
-ghost use Rattle.graph.specs.Listing.{first_by, order_by};
-ghost use Rattle.graph.specs.declared.index.End.TheVariants.{Head, Tail};
+ghost use Rattle.std.specs.Prelude.{ℕ, ◌<◌, ◌≤◌, length, slice_index_or};
+ghost use Rattle.graph.specs.Arcs.{Sound, blank, head_of, tail_of};
+ghost use Rattle.graph.specs.Listing.{Lists};
 
 use crate::Arc;
 use crate::index::Index;
@@ -17,8 +16,6 @@ pub struct Graph {
     ghost small: { nodes ≤ 32 },
     ghost few: { length arcs.items ≤ 128 },
     ghost sound: { (e : ℕ) → e < length arcs.items → Sound nodes (slice_index_or arcs.items e blank) },
-    ghost leaving_first: { leaving.first.items ≡ first_by Tail arcs.items nodes },
-    ghost leaving_order: { leaving.order.items ≡ order_by Tail arcs.items nodes },
-    ghost entering_first: { entering.first.items ≡ first_by Head arcs.items nodes },
-    ghost entering_order: { entering.order.items ≡ order_by Head arcs.items nodes },
+    ghost by_tail: { Lists (tail_of arcs.items) (length arcs.items) nodes leaving.first.items leaving.order.items },
+    ghost by_head: { Lists (head_of arcs.items) (length arcs.items) nodes entering.first.items entering.order.items },
 }

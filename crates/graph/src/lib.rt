@@ -46,6 +46,16 @@ mod tests {
     }
 
     #[test]
+    fn lists_arcs_of_node(rt: HostRuntime) -> Result<(), Fail> {
+        let graph = Graph::new(4, sample(rt.alloc())?, rt.alloc())?;
+        assert!(rt; graph.leaving(2) == [0, 2].as_slice());
+        assert!(rt; graph.entering(1) == [1, 2].as_slice());
+        assert!(rt; graph.entering(3).is_empty());
+        assert!(rt; graph.leaving(255).is_empty());
+        Ok(())
+    }
+
+    #[test]
     fn refuses_other_nodes(rt: HostRuntime) -> Result<(), Fail> {
         let made = Graph::new(2, sample(rt.alloc())?, rt.alloc());
         assert!(rt; matches!(made, Err(GraphFault::OutOfLimits)));

@@ -1,11 +1,13 @@
 ghost use Rattle.graph.specs.Arcs.{Within, head_of, tail_of};
 ghost use Rattle.graph.specs.Graphs.{arc_list, node_count};
-ghost use Rattle.graph.specs.Index.{Indexed};
+ghost use Rattle.graph.specs.Index.{SortsBy};
+ghost use Rattle.graph.specs.Listing.{ListsArcs, of_node};
 ghost use Rattle.std.specs.Prelude.{◌≡◌, length};
 
 use crate::{Arc, Graph};
 
 // The numbers of the arcs by one of their ends: those of the node v stand in `order` from first[v] up to first[v + 1].
+// Two flat lists (compressed sparse rows), since callers read both of them as they are.
 #[derive(Clone, Copy)]
 pub struct Sorted<'a> {
     pub first: &'a [u8],
@@ -31,9 +33,26 @@ impl Graph {
 
     // The arcs, by number.
     pub fn arcs(&self) -> &[Arc]
-        ensures { result.now ≡ arc_list self.now }
+        ensures arcs { result.now ≡ arc_list self.now }
+        ensures within { Within (node_count self.now) (arc_list self.now) }
     {
         &self.arcs
+    }
+
+    // The numbers of the arcs that leave `node`, in rising order; none where there is no such node.
+    pub fn leaving(&self, node: u8) -> &[u8]
+        ensures arcs { result.now ≡ of_node (tail_of (arc_list self.now)) node (length (arc_list self.now)) }
+        ensures lists { ListsArcs (tail_of (arc_list self.now)) (length (arc_list self.now)) node result.now }
+    {
+        self.leaving.of(node)
+    }
+
+    // The numbers of the arcs that enter `node`, in rising order; none where there is no such node.
+    pub fn entering(&self, node: u8) -> &[u8]
+        ensures arcs { result.now ≡ of_node (head_of (arc_list self.now)) node (length (arc_list self.now)) }
+        ensures lists { ListsArcs (head_of (arc_list self.now)) (length (arc_list self.now)) node result.now }
+    {
+        self.entering.of(node)
     }
 
     // The graph as it is read: within the limits, and indexed by both ends of its arcs.
@@ -41,32 +60,14 @@ impl Graph {
         ensures nodes { result.nodes ≡ node_count self.now }
         ensures arcs { result.arcs.now ≡ arc_list self.now }
         ensures within { Within result.nodes result.arcs.now }
-        ensures leaving { Indexed (length result.arcs.now) (tail_of result.arcs.now) result.leaving.first.now result.leaving.order.now result.nodes }
-        ensures entering { Indexed (length result.arcs.now) (head_of result.arcs.now) result.entering.first.now result.entering.order.now result.nodes }
-    {
-        self.lend()
-    }
-
-    // The fields of the graph, lent.
-    fn lend(&self) -> View<'_>
-        ensures nodes { result.nodes ≡ self.now.nodes }
-        ensures arcs { result.arcs.now ≡ self.now.arcs.items }
-        ensures leaving_first { result.leaving.first.now ≡ self.now.leaving.first.items }
-        ensures leaving_order { result.leaving.order.now ≡ self.now.leaving.order.items }
-        ensures entering_first { result.entering.first.now ≡ self.now.entering.first.items }
-        ensures entering_order { result.entering.order.now ≡ self.now.entering.order.items }
+        ensures leaving { SortsBy (tail_of result.arcs.now) (length result.arcs.now) result.leaving result.nodes }
+        ensures entering { SortsBy (head_of result.arcs.now) (length result.arcs.now) result.entering result.nodes }
     {
         View {
             nodes: self.nodes,
             arcs: &self.arcs,
-            leaving: Sorted {
-                first: &self.leaving.first,
-                order: &self.leaving.order,
-            },
-            entering: Sorted {
-                first: &self.entering.first,
-                order: &self.entering.order,
-            },
+            leaving: self.leaving.sorted(),
+            entering: self.entering.sorted(),
         }
     }
 }

@@ -1,12 +1,12 @@
 -- A binary heap in the first n elements of a list, the least first.
--- R answers how two elements compare, and o says that it is a total order; the calls take the element type's `cmp` for R.
+-- R answers how two elements compare; the heap takes the element type's `cmp`, a total order, for R.
 use Rattle.std.specs.Prelude.{◌≡◌, ℕ, ◌+◌, ◌*◌, ◌<◌, ◌≤◌, Bool, false, List, length, take, drop, slice_index_or}
 use Rattle.std.specs.declared.cmp.Ordering.{Ordering}
-use Rattle.std.specs.Cmp.{IsTotalOrder}
 use Rattle.std.specs.Ordering.{is_lt}
 use Rattle.std.specs.List.Sorted.{IsPermutation}
+use Rattle.std.proofs.Props.{props}
 
-module _ {X : Type 0} {R : X → X → Ordering} (o : IsTotalOrder R) where
+module _ {X : Type 0} (R : X → X → Ordering) where
   -- x comes before y
   abbrev pub before : X → X → Bool
   before x y = is_lt (R x y)
@@ -18,6 +18,11 @@ module _ {X : Type 0} {R : X → X → Ordering} (o : IsTotalOrder R) where
   -- none of the first n comes before x
   abbrev pub Least : X → List X → ℕ → Type 0
   Least x xs n = (k : ℕ) (d : X) → k < n → before (slice_index_or xs k d) x ≡ false
+
+-- the order of a heap has one proof at most, so it may be a ghost field
+pub IsHeap-prop : {X : Type 0} (R : X → X → Ordering) (xs : List X) (n : ℕ) → IsProp (IsHeap R xs n)
+unfolding IsHeap
+IsHeap-prop R xs n = Prim.hlevel props
 
 -- ys has the first n of xs in some order, and the rest of xs as it is
 pub record Moved {X : Type 0} (n : ℕ) (xs ys : List X) : Type 0 where

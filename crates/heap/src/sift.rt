@@ -1,6 +1,7 @@
 // The two steps that restore the order of a heap: one element rises or sinks to its place.
+// Their loops are `while`s, since they go from child to parent or back and count no index.
 ghost use Rattle.std.specs.Prelude.{◌≡◌, ℕ, ◌+◌, ◌*◌, ◌<◌, ◌≤◌, length};
-ghost use Rattle.heap.specs.Least.{Moved};
+ghost use Rattle.heap.specs.Least.{IsHeap, Moved};
 ghost use Rattle.heap.specs.Sifted.{LeastChild, Rises, Sinks, Tells};
 
 // Whether the element at `a` comes before the one at `b`.
@@ -56,5 +57,16 @@ pub(crate) fn sift_down<T: Ord>(items: &mut [T], len: usize)
         }
         items.swap(parent, child);
         parent = child;
+    }
+}
+
+// Makes the first `len` elements a heap, where the first `from` are one: the others rise to their places in turn.
+pub(crate) fn heapify<T: Ord>(items: &mut [T], from: usize, len: usize)
+    requires { (from ≤ len) × (len ≤ length items.old) × IsHeap T.cmp items.old from }
+    ensures moved { Moved len items.old items.new }
+    ensures heap { IsHeap T.cmp items.new len }
+{
+    for last in from..len {
+        sift_up(items, last);
     }
 }

@@ -1,5 +1,5 @@
--- What the decimal of a number is, and the powers of ten that its digits stand at.
-use Rattle.std.specs.Prelude.{◌≡◌, ℕ, ◌+◌, ◌-◌, ◌*◌, ◌^◌, ◌<◌, ◌≤◌, List, [], ◌∷◌, length, slice_index, slice_index_or}
+-- What the decimal of a number is.
+use Rattle.std.specs.Prelude.{◌≡◌, ℕ, ◌+◌, ◌-◌, ◌*◌, ◌<◌, ◌≤◌, List, [], ◌∷◌, length, slice_index, slice_index_or}
 
 -- the bytes '0' to '9'
 abbrev pub Digit : ℕ → Type 0
@@ -25,13 +25,3 @@ pub record IsDecimal (n : ℕ) (bytes : List ℕ) : Type 0 where
 pub record TheDecimal (n : ℕ) (bytes : List ℕ) : Type 0 where
   pub is : IsDecimal n bytes
   pub only : (others : List ℕ) → IsDecimal n others → others ≡ bytes
-
--- a power of ten
-abbrev pub PowerOfTen : ℕ → Type 0
-PowerOfTen power = (k : ℕ) × (power ≡ 10 ^ k)
-
--- the power is the largest power of ten not above n, or 1: the first digit of n stands there
-pub record Highest (n power : ℕ) : Type 0 where
-  pub tens : PowerOfTen power
-  pub reached : 1 < power → power ≤ n
-  pub last : n < 10 * power

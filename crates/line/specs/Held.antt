@@ -1,4 +1,4 @@
--- What a line holds.
+-- What a line holds, by functions of the line: a model would have the same two parts, and no clause would be shorter.
 use Rattle.std.specs.Prelude.{◌≡◌, ℕ, ◌+◌, ◌≤◌, true, cond, List, ◌∷◌, ◌++◌, length, is_ok, vec_items, vec_capacity, decimal, Result}
 use Rattle.std.specs.List.{flat_map}
 use Rattle.line.specs.declared.Line.{Line}

@@ -1,10 +1,11 @@
 // A line of a log: bytes and decimals, appended one after another.
 #![tactic(auto)]
 
-ghost use Rattle.std.specs.Prelude.{◌≡◌, ◌+◌, ◌/◌, ◌%◌, ◌<◌, ◌≤◌, [], ◌++◌, length, take, decimal, MatchResult};
-ghost use Rattle.line.specs.Decimals.{Highest, TheDecimal};
+ghost use Rattle.std.specs.Prelude.{◌≡◌, ◌+◌, ◌<◌, ◌≤◌, [], ◌++◌, length, take, decimal, OnErr, OnOk};
+ghost use Rattle.line.specs.Decimals.{TheDecimal};
 ghost use Rattle.line.specs.Held.{Appends, held, room, spaced};
 
+use itoa::Buffer;
 use std::alloc::{AllocError, Global};
 
 // A byte buffer. A call that appends answers `Err` where it finds no memory, and the line then holds what it held.
@@ -19,8 +20,9 @@ impl Line {
         ensures empty { held result ≡ [] }
         ensures capacity { room result ≡ 0 }
     {
-        let bytes = Vec::new(heap);
-        Line { bytes }
+        Line {
+            bytes: Vec::new(heap),
+        }
     }
 
     // Appends the bytes of a text.
@@ -31,12 +33,12 @@ impl Line {
     }
 
     // Appends the decimal of n, with no leading zeros.
+    #[tactic(auto, using(crate::proofs::Decimals::the_decimal))]
     pub fn decimal(&mut self, n: u32) -> Result<(), AllocError>
         ensures appends { Appends self.old (decimal n) result self.new }
         ensures spelled { TheDecimal n (decimal n) }
     {
-        let (digits, count) = digits_of(n);
-        self.text(&digits[0..count])
+        self.text(Buffer::new().format(n).as_bytes())
     }
 
     // Appends for each number a space and its decimal.
@@ -52,14 +54,16 @@ impl Line {
     }
 
     // Appends the numbers one by one, so that an `Err` may leave a part of them behind what the line held.
+    #[tactic(auto, using(crate::proofs::Spaced::fitting))]
     fn each_number(&mut self, numbers: &[u8]) -> Result<(), AllocError>
         ensures kept { take (length (held self.old)) (held self.new) ≡ held self.old }
-        ensures cases { MatchResult result (λ _. held self.new ≡ held self.old ++ spaced numbers.now) (λ _. room self.old < length (held self.old) + length (spaced numbers.now)) }
+        ensures appended { OnOk result (held self.new ≡ held self.old ++ spaced numbers.now) }
+        ensures full { OnErr result (room self.old < length (held self.old) + length (spaced numbers.now)) }
         ensures capacity { room self.old ≤ room self.new }
     {
-        for number in numbers {
+        for &number in numbers {
             self.text(b" ")?;
-            self.decimal(u32::from(*number))?;
+            self.decimal(u32::from(number))?;
         }
         Ok(())
     }
@@ -68,71 +72,30 @@ impl Line {
     pub fn bytes(&self) -> &[u8]
         ensures { result.now ≡ held self.now }
     {
-        self.bytes.as_slice()
+        &self.bytes
     }
-}
-
-// The most digits that a number of 32 bits has.
-const MOST_DIGITS: usize = 10;
-
-// The digits of n, from the highest power of ten down to 1, and how many they are.
-fn digits_of(n: u32) -> ([u8; MOST_DIGITS], usize)
-    ensures within { result.1 ≤ 10 }
-    ensures count { result.1 ≡ length (decimal n) }
-    ensures written { take result.1 result.0 ≡ decimal n }
-    ensures spelled { TheDecimal n (decimal n) }
-{
-    let mut power = highest_power(n);
-    let mut digits = [0; MOST_DIGITS];
-    digits[0] = digit(n, power);
-    let mut count = 1;
-    while power > 1 {
-        power /= 10;
-        digits[count] = digit(n, power);
-        count += 1;
-    }
-    (digits, count)
-}
-
-// The largest power of ten that is not above n, or 1 where n is 0.
-fn highest_power(n: u32) -> u32
-    ensures { Highest n result }
-{
-    let mut power = 1;
-    while power <= n / 10 {
-        power *= 10;
-    }
-    power
-}
-
-// The digit of n at a power of ten.
-fn digit(n: u32, power: u32) -> u8
-    requires { 0 < power }
-    ensures { result ≡ 48 + n / power % 10 }
-{
-    b'0' + (n / power % 10) as u8
 }
 
 #[cfg(test)]
 mod tests {
     use super::*;
-    use std::process::Abort;
     use std::test::Fail;
-
-    fn check_decimal(rt: &impl Abort, heap: Global, n: u32, text: &[u8]) -> Result<(), Fail> {
-        let mut line = Line::new(heap);
-        line.decimal(n)?;
-        assert!(rt; line.bytes() == text);
-        Ok(())
-    }
 
     #[test]
     fn decimals(rt: HostRuntime) -> Result<(), Fail> {
-        check_decimal(&rt, rt.alloc(), 0, b"0")?;
-        check_decimal(&rt, rt.alloc(), 9, b"9")?;
-        check_decimal(&rt, rt.alloc(), 10, b"10")?;
-        check_decimal(&rt, rt.alloc(), 65_535, b"65535")?;
-        check_decimal(&rt, rt.alloc(), 4_294_967_295, b"4294967295")
+        let cases: [(u32, &[u8]); 5] = [
+            (0, b"0"),
+            (9, b"9"),
+            (10, b"10"),
+            (65_535, b"65535"),
+            (4_294_967_295, b"4294967295"),
+        ];
+        for (n, text) in cases {
+            let mut line = Line::new(rt.alloc());
+            line.decimal(n)?;
+            assert_eq!(rt; line.bytes(), text);
+        }
+        Ok(())
     }
 
     #[test]
@@ -140,7 +103,7 @@ mod tests {
         let mut line = Line::new(rt.alloc());
         line.text(b"PATH")?;
         line.numbers(&[7, 0, 10, 255])?;
-        assert!(rt; line.bytes() == b"PATH 7 0 10 255".as_slice());
+        assert_eq!(rt; line.bytes(), b"PATH 7 0 10 255".as_slice());
         Ok(())
     }
 }

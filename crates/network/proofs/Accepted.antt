@@ -6,7 +6,7 @@ use Rattle.network.specs.Format.{bits, ends_word, limits_word, link_words, heade
 use Rattle.network.specs.Limits.{Sound, SoundLink, blank}
 use Rattle.network.specs.Reading.{GivesNodes}
 use Rattle.network.specs.Refusals.{CleanBelow, word_fault, ends_fault, limits_fault}
-use Rattle.network.proofs.Collected.{AllSound, length-words}
+use Rattle.network.proofs.Collected.{length-words}
 use Rattle.network.proofs.Refused.{odd_place, even_place}
 use Rattle.network.proofs.Words.{ends_clean, limits_clean}
 
@@ -26,20 +26,20 @@ gives_nodes n links sound =
       nodes = omega arith;
     }
 
--- the two words of the link e
-at_ends : (xs : List Link) (e : ℕ) → e < length xs → get_or (link_words xs) (2 * e) 0 ≡ ends_word (get_or xs e blank)
-at_ends [] e lt = absurd (omega arith)
-at_ends (x ∷ xs) zero lt = refl
-at_ends (x ∷ xs) (suc e) lt =
-    let k : 2 * suc e ≡ suc (suc (2 * e)) = omega arith in
-    ap (λ i. get_or (link_words (x ∷ xs)) i 0) k ∙ at_ends xs e (omega arith)
+-- each of the links is one of a network of n nodes
+abbrev pub AllSound : ℕ → List Link → Type 0
+AllSound n links = (e : ℕ) → e < length links → SoundLink n (get_or links e blank)
 
-at_limits : (xs : List Link) (e : ℕ) → e < length xs → get_or (link_words xs) (2 * e + 1) 0 ≡ limits_word (get_or xs e blank)
-at_limits [] e lt = absurd (omega arith)
-at_limits (x ∷ xs) zero lt = refl
-at_limits (x ∷ xs) (suc e) lt =
-    let k : 2 * suc e + 1 ≡ suc (suc (2 * e + 1)) = omega arith in
-    ap (λ i. get_or (link_words (x ∷ xs)) i 0) k ∙ at_limits xs e (omega arith)
+-- the two words of the link e
+at_link : (xs : List Link) (e : ℕ) → e < length xs
+    → (get_or (link_words xs) (2 * e) 0 ≡ ends_word (get_or xs e blank)) × (get_or (link_words xs) (2 * e + 1) 0 ≡ limits_word (get_or xs e blank))
+at_link [] e lt = absurd (omega arith)
+at_link (x ∷ xs) zero lt = (refl, refl)
+at_link (x ∷ xs) (suc e) lt =
+    let later = at_link xs e (omega arith) in
+    let k : 2 * suc e ≡ suc (suc (2 * e)) = omega arith in
+    let l : 2 * suc e + 1 ≡ suc (suc (2 * e + 1)) = omega arith in
+    (ap (λ i. get_or (link_words (x ∷ xs)) i 0) k ∙ later.0, ap (λ i. get_or (link_words (x ∷ xs)) i 0) l ∙ later.1)
 
 -- the words of a sound link have no fault
 ends_sound : (n p : ℕ) (x : Link) → n ≤ 32 → SoundLink n x → ends_fault n p (ends_word x) ≡ None
@@ -70,8 +70,8 @@ link_clean n h xs e small all lt =
     let p = suc (2 * e) in
     let odd : suc (2 * e) % 2 ≡ 1 = omega arith in
     let next : suc (2 * e) + 1 ≡ suc (2 * e + 1) = omega arith in
-    let second = ap (λ i. get_or (h ∷ link_words xs) i 0) next ∙ at_limits xs e lt in (
-      odd_place n p _ odd ∙ (ap (λ w. ends_fault n p w) (at_ends xs e lt) ∙ ends_sound n p (get_or xs e blank) small (all e lt)),
+    let second = ap (λ i. get_or (h ∷ link_words xs) i 0) next ∙ (at_link xs e lt).1 in (
+      odd_place n p _ odd ∙ (ap (λ w. ends_fault n p w) (at_link xs e lt).0 ∙ ends_sound n p (get_or xs e blank) small (all e lt)),
       even_place n p _ odd ∙ (ap (λ w. limits_fault (p + 1) w) second ∙ limits_sound n (p + 1) (get_or xs e blank) (all e lt)),
     )
 
@@ -88,8 +88,8 @@ network_clean n links sound p lt from =
     subst (λ m. word_fault m p (get_or (network_words n links) p 0) ≡ None) (gives_nodes n links sound).nodes clean
 
 -- links with the same words are the same
-abbrev link_with : ℕ → ℕ → ℕ → ℕ → ℕ → Link
-link_with t h c k l = record { tail = t; head = h; cost = c; capacity = k; ceiling = l }
+abbrev by_fields : Link → Link
+by_fields x = record { tail = x.tail; head = x.head; cost = x.cost; capacity = x.capacity; ceiling = x.ceiling }
 
 same_link : (m n : ℕ) (x y : Link) → m ≤ 32 → n ≤ 32 → SoundLink m x → SoundLink n y
     → ends_word x ≡ ends_word y → limits_word x ≡ limits_word y → x ≡ y
@@ -99,16 +99,13 @@ same_link m n x y small little a b ends limits =
     let cost : x.cost ≡ y.cost = omega arith in
     let capacity : x.capacity ≡ y.capacity = omega arith in
     let ceiling : x.ceiling ≡ y.ceiling = omega arith in
-    ap (λ v. link_with v x.head x.cost x.capacity x.ceiling) tail
-    ∙ (ap (λ v. link_with y.tail v x.cost x.capacity x.ceiling) head
-    ∙ (ap (λ v. link_with y.tail y.head v x.capacity x.ceiling) cost
-    ∙ (ap (λ v. link_with y.tail y.head y.cost v x.ceiling) capacity
-    ∙ ap (λ v. link_with y.tail y.head y.cost y.capacity v) ceiling)))
+    let fields : by_fields x ≡ by_fields y = cc in
+    fields
 
 pub same_links : (m n : ℕ) (xs ys : List Link) → m ≤ 32 → n ≤ 32 → AllSound m xs → AllSound n ys → link_words xs ≡ link_words ys → xs ≡ ys
 same_links m n [] [] small little a b words = refl
-same_links m n [] (y ∷ ys) small little a b words = absurd (let z : ◌≡◌ {A = ℕ} 0 1 = cc in omega arith)
-same_links m n (x ∷ xs) [] small little a b words = absurd (let z : ◌≡◌ {A = ℕ} 0 1 = cc in omega arith)
+same_links m n [] (y ∷ ys) small little a b words = cc
+same_links m n (x ∷ xs) [] small little a b words = cc
 same_links m n (x ∷ xs) (y ∷ ys) small little a b words =
     let ends : ends_word x ≡ ends_word y = cc in
     let limits : limits_word x ≡ limits_word y = cc in

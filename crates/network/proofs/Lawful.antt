@@ -1,5 +1,5 @@
 -- The laws of the format.
-use Rattle.std.proofs.Common.{◌≡◌, ℕ, ◌+◌, ◌*◌, ◌<◌, List, [], length, get_or, take, drop, Some, None, Ok, Option, sym, refl, ap, ◌∙◌, subst, inl, inr, arith}
+use Rattle.std.proofs.Common.{◌≡◌, ℕ, ◌+◌, ◌*◌, ◌<◌, List, [], length, get_or, take, drop, Ok, sym, refl, ap, ◌∙◌, subst, inl, inr, arith}
 use Rattle.std.proofs.lemmas.List.{take_at, drop_at, length-append}
 use Rattle.std.proofs.lemmas.Bool.{cases_order}
 use Rattle.network.specs.declared.fault.Fault.{Fault}
@@ -13,9 +13,6 @@ use Rattle.network.specs.Writing.{Written}
 use Rattle.network.specs.Refusals.{GoodHeader, FirstFault, Refuses, CleanBelow, fault_at}
 use Rattle.network.proofs.Accepted.{gives_nodes, network_clean, same_links}
 use Rattle.network.proofs.Collected.{length-words}
-
-clash : (o : Option Fault) (f : Fault) → o ≡ None → o ≡ Some f → ⊥
-clash o f none some = let z : ◌≡◌ {A = ℕ} 0 1 = cc in omega arith
 
 -- the four steps at which words are refused
 data Step (ws : List ℕ) (f : Fault) : Type 0 where
@@ -39,25 +36,29 @@ same_first ws p q f g a b =
     elim (cases_order p q) [
       | inl same ↦ let here = a.here in let there = b.here in let at = ap (λ k. fault_at ws k) same in cc
       | inr other ↦ elim other [
-        | inl below ↦ absurd (clash _ f (b.before p below a.from) a.here)
-        | inr above ↦ absurd (clash _ g (a.before q above b.from) b.here)
+        | inl below ↦ let none = b.before p below a.from in let some = a.here in cc
+        | inr above ↦ let none = a.before q above b.from in let some = b.here in cc
       ]
     ]
 
+-- no words, and some
+filled : {ws : List ℕ} → ws ≡ [] → 0 < length ws → ⊥
+filled none some = omega (arith, ap length none)
+
 same_step : (ws : List ℕ) (f g : Fault) → Step ws f → Step ws g → f ≡ g
 same_step ws f g (no_word a e) (no_word b d) = cc
-same_step ws f g (no_word a e) (bad_header b bad d) = absurd (omega (arith, ap length a))
-same_step ws f g (no_word a e) (bad_length b good wrong d) = absurd (omega (arith, ap length a))
-same_step ws f g (no_word a e) (bad_word q h) = absurd (omega (arith, ap length a, h.within))
-same_step ws f g (bad_header b bad e) (no_word a d) = absurd (omega (arith, ap length a))
+same_step ws f g (no_word a e) (bad_header b bad d) = absurd (filled a b)
+same_step ws f g (no_word a e) (bad_length b good wrong d) = absurd (filled a b)
+same_step ws f g (no_word a e) (bad_word q h) = absurd (filled a (omega (arith, h.within)))
+same_step ws f g (bad_header b bad e) (no_word a d) = absurd (filled a b)
 same_step ws f g (bad_header b bad e) (bad_header a worse d) = cc
 same_step ws f g (bad_header b bad e) (bad_length a good wrong d) = absurd (bad good)
 same_step ws f g (bad_header b bad e) (bad_word q h) = absurd (bad h.header)
-same_step ws f g (bad_length b good wrong e) (no_word a d) = absurd (omega (arith, ap length a))
+same_step ws f g (bad_length b good wrong e) (no_word a d) = absurd (filled a b)
 same_step ws f g (bad_length b good wrong e) (bad_header a bad d) = absurd (bad good)
 same_step ws f g (bad_length b good wrong e) (bad_length a fine long d) = cc
 same_step ws f g (bad_length b good wrong e) (bad_word q h) = absurd (wrong h.long)
-same_step ws f g (bad_word p h) (no_word a d) = absurd (omega (arith, ap length a, h.within))
+same_step ws f g (bad_word p h) (no_word a d) = absurd (filled a (omega (arith, h.within)))
 same_step ws f g (bad_word p h) (bad_header a bad d) = absurd (bad h.header)
 same_step ws f g (bad_word p h) (bad_length a good wrong d) = absurd (wrong h.long)
 same_step ws f g (bad_word p h) (bad_word q k) = same_first ws p q f g h k
@@ -67,10 +68,10 @@ one_fault ws f g named titled a b = same_step ws f g (step ws f named a) (step w
 
 -- words with a good header, of the right length, without fault, are at none of the four steps
 no_step : (ws : List ℕ) (n : ℕ) (f : Fault) → GivesNodes ws n → CleanBelow ws (length ws) → Step ws f → ⊥
-no_step ws n f given clean (no_word a e) = omega (arith, ap length a, given.long)
+no_step ws n f given clean (no_word a e) = filled a (omega (arith, given.long))
 no_step ws n f given clean (bad_header a bad e) = bad given.header
 no_step ws n f given clean (bad_length a good wrong e) = wrong given.long
-no_step ws n f given clean (bad_word p h) = clash _ f (clean p h.within h.from) h.here
+no_step ws n f given clean (bad_word p h) = let none = clean p h.within h.from in let some = h.here in cc
 
 pub one_answer : OneAnswer
 one_answer ws n links f accepted refused numbered =

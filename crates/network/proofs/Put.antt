@@ -1,54 +1,46 @@
 -- Words that are written two at a time.
-use Rattle.std.proofs.Common.{◌≡◌, ℕ, ◌+◌, ◌-◌, ◌*◌, ◌<◌, ◌≤◌, List, [], ◌∷◌, ◌++◌, length, get_or, take, drop, set, refl, ap, ◌∙◌, add-one, arith}
-use Rattle.std.proofs.lemmas.List.{drop_more, take_more, take_all, set_at, set-append_right, length-take-le, get_or-set_same}
+use Rattle.std.proofs.Common.{◌≡◌, ℕ, ◌+◌, ◌*◌, ◌<◌, ◌≤◌, List, ◌∷◌, ◌++◌, length, get_or, take, drop, set, sym, ap, ◌∙◌, arith}
+use Rattle.std.proofs.lemmas.List.{drop-set-lt, get_or-set_other, get_or-set_same, length-set, take-append-drop, take-set-le, take_all, take_more}
 use Rattle.network.specs.declared.link.Link.{Link}
 use Rattle.network.specs.Format.{ends_word, limits_word, link_words, header_word, network_words}
 use Rattle.network.specs.Limits.{blank}
-use Rattle.network.proofs.Collected.{words_push, length-words}
+use Rattle.network.proofs.Collected.{front_more}
 
--- two words written past a front
-put_two : (front ws : List ℕ) (n a b : ℕ) → length front ≡ n → n + 2 ≤ length ws
-    → set (set (front ++ drop n ws) n a) (n + 1) b ≡ front ++ (a ∷ b ∷ drop (n + 2) ws)
-put_two front ws n a b len le =
-    let u = get_or ws n 0 in
-    let v = get_or ws (n + 1) 0 in
-    let d1 = drop_more ws n 0 (omega arith) in
-    let d2 = drop_more ws (n + 1) 0 (omega arith) in
-    let s1 = set_at front u (v ∷ drop (n + 1 + 1) ws) a n len in
-    let s2 = set-append_right front (a ∷ v ∷ drop (n + 1 + 1) ws) n (n + 1) b len (omega arith) in
-    let k1 : n + 1 - n ≡ 1 = omega arith in
-    let k2 : n + 1 + 1 ≡ n + 2 = omega arith in
-    ap (λ l. set (set (front ++ l) n a) (n + 1) b) (d1 ∙ ap (λ l. u ∷ l) d2)
-    ∙ (ap (λ l. set l (n + 1) b) s1
-    ∙ (s2 ∙ (ap (λ k. front ++ set (a ∷ v ∷ drop (n + 1 + 1) ws) k b) k1 ∙ ap (λ k. front ++ (a ∷ b ∷ drop k ws)) k2)))
+-- The words are a first one and those of the first e links, and then those that were there before.
+pub record Puts (links : List Link) (before words : List ℕ) (e : ℕ) : Type 0 where
+  pub front : take (2 * e + 1) words ≡ get_or before 0 0 ∷ link_words (take e links)
+  pub behind : (k : ℕ) → 2 * e + 1 ≤ k → drop k words ≡ drop k before
 
 -- one link more
-pub put_more : (w : ℕ) (links : List Link) (before words : List ℕ) (e a b : ℕ) → e < length links → 2 * e + 3 ≤ length before
+pub put_more : (links : List Link) (before words : List ℕ) (e a b : ℕ) → e < length links → 2 * e + 3 ≤ length words
     → a ≡ ends_word (get_or links e blank) → b ≡ limits_word (get_or links e blank)
-    → words ≡ (w ∷ link_words (take e links)) ++ drop (2 * e + 1) before
-    → set (set words (2 * e + 1) a) (2 * e + 2) b ≡ (w ∷ link_words (take (e + 1) links)) ++ drop (2 * (e + 1) + 1) before
-put_more w links before words e a b lt le ends limits so_far =
-    let many = length-words (take e links) in
-    let taken = length-take-le e links (omega arith) in
-    let len : length (w ∷ link_words (take e links)) ≡ 2 * e + 1 = omega arith in
-    let two = put_two (w ∷ link_words (take e links)) before (2 * e + 1) a b len (omega arith) in
-    let push = words_push (take e links) (get_or links e blank) (drop (2 * e + 1 + 2) before) in
-    let more = take_more links e blank lt in
-    let n1 : 2 * e + 1 + 1 ≡ 2 * e + 2 = omega arith in
-    let n2 : 2 * e + 1 + 2 ≡ 2 * (e + 1) + 1 = omega arith in
-    cc
-
-drop_first : (ws : List ℕ) (w k : ℕ) → drop (k + 1) (set ws 0 w) ≡ drop (k + 1) ws
-drop_first [] w k = refl
-drop_first (x ∷ xs) w k = rw add-one refl
+    → Puts links before words e → Puts links before (set (set words (2 * e + 1) a) (2 * e + 2) b) (e + 1)
+put_more links before words e a b lt room ends limits so_far =
+    let p = 2 * e + 1 in
+    let after = set (set words (2 * e + 1) a) (2 * e + 2) b in
+    let long : length after ≡ length words = length-set (set words p a) (2 * e + 2) b ∙ length-set words p a in
+    let front : take p after ≡ take p words = take-set-le p (set words p a) (2 * e + 2) b (omega arith) ∙ take-set-le p words p a (omega arith) in
+    let first : get_or after p 0 ≡ a =
+    get_or-set_other (set words p a) (2 * e + 2) p b 0 (λ same. omega arith) ∙ get_or-set_same words p a 0 (omega arith) in
+    let next : 2 * e + 2 ≡ p + 1 = omega arith in
+    let room_left : 2 * e + 2 < length (set words p a) = omega (arith, length-set words p a) in
+    let second : get_or after (p + 1) 0 ≡ b = ap (λ k. get_or after k 0) (sym next) ∙ get_or-set_same (set words p a) (2 * e + 2) b 0 room_left in
+    let more = front_more after p _ (take e links) (get_or links e blank) (omega arith) (front ∙ so_far.front) (first ∙ ends) (second ∙ limits) in
+    let taken = take_more links e blank lt in
+    let place : p + 2 ≡ 2 * (e + 1) + 1 = omega arith in
+    record {
+      front = cc;
+      behind = λ k far. drop-set-lt k (set words p a) (2 * e + 2) b (omega arith) ∙ (drop-set-lt k words p a (omega arith) ∙ so_far.behind k (omega arith));
+    }
 
 -- all links
 pub put_all : (n w : ℕ) (links : List Link) (before words : List ℕ) (e : ℕ) → e ≡ length links → w ≡ header_word n (length links) → 0 < length before
-    → words ≡ (get_or (set before 0 w) 0 0 ∷ link_words (take e links)) ++ drop (2 * e + 1) (set before 0 w)
-    → words ≡ network_words n links ++ drop (1 + 2 * length links) before
-put_all n w links before words e all is some so_far =
+    → Puts links (set before 0 w) words e → words ≡ network_words n links ++ drop (1 + 2 * length links) before
+put_all n w links before words e all is some done =
     let whole = take_all e links (omega arith) in
-    let g = get_or-set_same before 0 w 0 some in
-    let d = drop_first before w (2 * e) in
-    let k : 2 * e + 1 ≡ 1 + 2 * length links = omega arith in
+    let first = get_or-set_same before 0 w 0 some in
+    let front = done.front in
+    let behind = done.behind (2 * e + 1) (omega arith) ∙ drop-set-lt (2 * e + 1) before 0 w (omega arith) in
+    let parts = take-append-drop (2 * e + 1) words in
+    let place : 2 * e + 1 ≡ 1 + 2 * length links = omega arith in
     cc

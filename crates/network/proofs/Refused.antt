@@ -1,5 +1,5 @@
 -- From a fault of a link to a refusal of the words.
-use Rattle.std.proofs.Common.{◌≡◌, ℕ, ◌+◌, ◌%◌, ◌≤◌, ◌⊎◌, List, length, get_or, Some, None, Option, refl, ◌∙◌, subst, inl, inr, arith, below_more, eq-eqb}
+use Rattle.std.proofs.Common.{◌≡◌, ℕ, ◌+◌, ◌%◌, ◌<◌, ◌⊎◌, List, length, get_or, Some, None, Option, refl, ap, ◌∙◌, inl, inr, arith, below_more, eq-eqb}
 use Rattle.std.proofs.lemmas.Bool.Decides.{nat_tests}
 use Rattle.network.specs.declared.fault.Fault.{Fault}
 use Rattle.network.specs.declared.fault.Fault.TheVariants.{NoWord, Header, Length, Kind, Ends, Cost, Limits, NoMemory}
@@ -15,19 +15,19 @@ refused_first ws p (Length words) h = absurd (let e = h.here in grind (arith, na
 refused_first ws p (Kind place) h =
     let e = h.here in
     let same : p ≡ place = grind (arith, nat_tests) in
-    subst (λ q. FirstFault ws q (Kind place)) same h
+    rw same at h
 refused_first ws p (Ends place) h =
     let e = h.here in
     let same : p ≡ place = grind (arith, nat_tests) in
-    subst (λ q. FirstFault ws q (Ends place)) same h
+    rw same at h
 refused_first ws p (Cost place) h =
     let e = h.here in
     let same : p ≡ place = grind (arith, nat_tests) in
-    subst (λ q. FirstFault ws q (Cost place)) same h
+    rw same at h
 refused_first ws p (Limits place) h =
     let e = h.here in
     let same : p ≡ place = grind (arith, nat_tests) in
-    subst (λ q. FirstFault ws q (Limits place)) same h
+    rw same at h
 refused_first ws p NoMemory h = absurd (let e = h.here in grind (arith, nat_tests))
 
 -- a link word at an odd place gives the ends
@@ -42,7 +42,7 @@ even_place n p w odd = grind (arith, nat_tests)
 pub clean_more : (ws : List ℕ) (n p : ℕ) → GivesNodes ws n → p % 2 ≡ 1 → CleanBelow ws p
     → link_fault n ws p ≡ None → CleanBelow ws (p + 2)
 clean_more ws n p given odd below clean =
-    let e = subst (λ m. link_fault m ws p ≡ None) given.nodes clean in
+    let e : link_fault (nodes_in ws) ws p ≡ None = rw (← given.nodes) clean in
     let first : ends_fault (nodes_in ws) p (get_or ws p 0) ≡ None = grind arith in
     let second : limits_fault (p + 1) (get_or ws (p + 1) 0) ≡ None = grind arith in
     let one = below_more _ p below (λ _. odd_place (nodes_in ws) p (get_or ws p 0) odd ∙ first) in
@@ -55,12 +55,14 @@ first_of (Some g) later f e = inl e
 first_of None later f e = inr (refl, e)
 
 -- the words are refused with the fault of the first link that has one
-pub refused_link : (ws : List ℕ) (n p : ℕ) (f : Fault) → GivesNodes ws n → p % 2 ≡ 1 → p + 2 ≤ length ws → CleanBelow ws p
-    → link_fault n ws p ≡ Some f → Refuses ws f
-refused_link ws n p f given odd within below e =
+pub refused_link : (ws vs : List ℕ) (n p : ℕ) (f : Fault) → GivesNodes ws n → p % 2 ≡ 1 → vs ≡ ws → CleanBelow ws p → p < length vs
+    → link_fault n vs p ≡ Some f → Refuses ws f
+refused_link ws vs n p f given odd same below within e =
     let at_first = odd_place (nodes_in ws) p (get_or ws p 0) odd in
     let at_second = even_place (nodes_in ws) p (get_or ws (p + 1) 0) odd in
-    elim (first_of _ _ f (subst (λ m. link_fault m ws p ≡ Some f) given.nodes e)) [
+    let here : link_fault (nodes_in ws) ws p ≡ Some f = rw (← given.nodes, ← same) e in
+    let long = ap length same in
+    elim (first_of _ _ f here) [
       | inl h ↦ refused_first ws p f record {
         header = given.header;
         long = given.long;

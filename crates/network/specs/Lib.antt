@@ -1,8 +1,10 @@
 pub mod Arcs
 pub mod Faults
 pub mod Format
+pub mod Kinds
 pub mod Laws
 pub mod Limits
+pub mod Made
 pub mod Networks
 pub mod Reading
 pub mod Refusals

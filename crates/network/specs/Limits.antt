@@ -1,18 +1,10 @@
 -- The limits that every network keeps.
-use Rattle.std.specs.Prelude.{◌≡◌, ℕ, ◌<◌, ◌≤◌, List, length, ◌≢◌, slice_index_or}
+use Rattle.std.specs.Prelude.{◌≡◌, ℕ, ◌<◌, ◌≤◌, List, length, slice_index_or}
 use Rattle.network.specs.declared.link.Link.{Link}
 
 -- what stands past the end of a list of links
 abbrev pub blank : Link
 blank = record { tail = 0; head = 0; cost = 0; capacity = 0; ceiling = 0 }
-
--- a link between two different nodes of n
-abbrev pub Joins : ℕ → Link → Type 0
-Joins n x = (x.tail < n) × (x.head < n) × (x.tail ≢ x.head)
-
--- its cost, capacity and ceiling are in range
-abbrev pub InRange : Link → Type 0
-InRange x = (1 ≤ x.cost) × (x.cost ≤ 65535) × (1 ≤ x.capacity) × (x.capacity ≤ 65535) × (x.ceiling ≤ 64)
 
 -- a link of a network of n nodes
 pub record SoundLink (n : ℕ) (x : Link) : Type 0 where

@@ -3,6 +3,7 @@ use Rattle.std.specs.Prelude.{◌≡◌, ℕ, ◌+◌, ◌*◌, List, length, So
 use Rattle.network.specs.declared.fault.Fault.{Fault}
 use Rattle.network.specs.declared.link.Link.{Link}
 use Rattle.network.specs.declared.reader.Reader.{Reader}
+use Rattle.network.specs.declared.word.Word.{Word}
 use Rattle.network.specs.Format.{bits, ends_word, limits_word, nodes_in, links_in}
 use Rattle.network.specs.Limits.{SoundLink}
 use Rattle.network.specs.Refusals.{GoodHeader, ends_fault, limits_fault}
@@ -12,8 +13,12 @@ abbrev pub words_of : Reader → List ℕ
 words_of r = r.words.now
 
 -- the word that it reads next
-abbrev pub upcoming : Reader → ℕ
-upcoming r = slice_index (words_of r) r.place
+abbrev pub upcoming : Reader → Word
+upcoming r = record { place = r.place; bits = slice_index (words_of r) r.place }
+
+-- the reader once it has read so many words more
+abbrev pub past : Reader → ℕ → Reader
+past r k = record r { place = r.place + k }
 
 -- a word without fault gives its fields: tail, head and cost
 abbrev pub GivesEnds : ℕ → ℕ → ℕ → ℕ × ℕ × ℕ → Type 0

@@ -1,11 +1,13 @@
-// Why words are not read as a network, or a network is not written.
+// Why no network is read, written or made.
 ghost use Rattle.std.specs.Prelude.{◌≡◌};
 ghost use Rattle.network.specs.declared.fault.Fault.TheVariants.{NoMemory};
+ghost use Rattle.network.specs.declared.fault.LinksFault.TheVariants as links_fault;
 ghost use Rattle.network.specs.Faults.{number_of, place_of};
 
-use std::alloc::AllocFailed;
+use std::alloc::{AllocError, AllocFailed};
 
-#[derive(Clone, Copy, Debug)]
+// Why words are not read as a network, or a network is not written.
+#[derive(Clone, Copy, Debug, PartialEq, Eq)]
 pub enum Fault {
     // There is no word.
     NoWord,
@@ -26,7 +28,7 @@ pub enum Fault {
 }
 
 impl Fault {
-    // The number of the fault, by which a log names it.
+    // The number of the fault, by which a log names it. No conversion: want of memory has none, and that is no error.
     pub fn number(self) -> Option<u8>
         ensures { result ≡ number_of self }
     {
@@ -63,5 +65,30 @@ impl<T: Drop> From<AllocFailed<T>> for Fault {
 
     fn from(_: AllocFailed<T>) -> Fault {
         Fault::NoMemory
+    }
+}
+
+impl From<AllocError> for Fault {
+    ghost from_gives = { λ _ r. r ≡ NoMemory };
+
+    fn from(_: AllocError) -> Fault {
+        Fault::NoMemory
+    }
+}
+
+// Why links make no network.
+#[derive(Clone, Copy, Debug, PartialEq, Eq)]
+pub enum LinksFault {
+    // They, or the number of nodes, break a limit.
+    OutOfLimits,
+    // There is no memory to hold the network.
+    NoMemory,
+}
+
+impl From<AllocError> for LinksFault {
+    ghost from_gives = { λ _ r. r ≡ links_fault.NoMemory };
+
+    fn from(_: AllocError) -> LinksFault {
+        LinksFault::NoMemory
     }
 }

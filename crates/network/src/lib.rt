@@ -2,15 +2,18 @@
 #![tactic(auto)]
 
 mod fault;
+mod kind;
 mod laws;
+mod limits;
 mod link;
 mod network;
 mod reader;
 #[cfg(test)]
 mod tests;
+mod word;
 mod writer;
 
-pub use fault::Fault;
+pub use fault::{Fault, LinksFault};
 pub use laws::format_stands;
 pub use link::Link;
 pub use network::Network;

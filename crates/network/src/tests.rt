@@ -57,3 +57,33 @@ fn refuses(rt: HostRuntime) {
     words[4] = 0x2000_a800;
     assert_eq!(rt; fault(&words, heap), (Some(4), Some(4)));
 }
+
+// A link of the diamond.
+fn link(tail: u8, head: u8, cost: u16) -> Link {
+    Link {
+        tail,
+        head,
+        cost,
+        capacity: 10,
+        ceiling: 64,
+    }
+}
+
+#[test]
+fn makes_of_links(rt: HostRuntime) -> Result<(), Fail> {
+    let heap = rt.alloc();
+    let links = [
+        link(0, 1, 1),
+        link(1, 2, 1),
+        link(2, 3, 1),
+        link(0, 2, 4),
+        link(1, 3, 4),
+    ];
+    let network = Network::of_links(4, links.to_vec(heap)?, heap)?;
+    let mut words = [7; 11];
+    assert_eq!(rt; network.write(&mut words)?, 11);
+    assert!(rt; words == DIAMOND);
+    let few = Network::of_links(3, links.to_vec(heap)?, heap);
+    assert!(rt; matches!(few, Err(LinksFault::OutOfLimits)));
+    Ok(())
+}

@@ -5,30 +5,34 @@ ghost use Rattle.network.specs.Laws.{ReadsAs};
 ghost use Rattle.network.specs.Networks.{link_list, node_count};
 ghost use Rattle.network.specs.Writing.{Written};
 
+use crate::kind::Kind;
 use crate::{Fault, Link, Network};
 
-// Kind 1: nodes in bits 27–16, links in 15–0.
+// The header: nodes in bits 27–16, links in 15–0.
 fn header_word(nodes: u8, links: usize) -> u32
     requires { links ≤ 128 }
     ensures { result ≡ header_word nodes links }
 {
-    (1 << 28) + ((nodes as u32) << 16) + links as u32
+    Kind::Header.high_bits() + ((nodes as u32) << 16) + links as u32
 }
 
-// Kind 2: tail in bits 27–22, head in 21–16, cost in 15–0.
+// A link's ends: tail in bits 27–22, head in 21–16, cost in 15–0.
 fn ends_word(link: Link) -> u32
     requires { (link.tail < 64) × (link.head < 64) }
     ensures { result ≡ ends_word link }
 {
-    (2 << 28) + ((link.tail as u32) << 22) + ((link.head as u32) << 16) + link.cost as u32
+    Kind::Ends.high_bits()
+        + ((link.tail as u32) << 22)
+        + ((link.head as u32) << 16)
+        + link.cost as u32
 }
 
-// Kind 3: capacity in bits 27–12, ceiling in 11–5, zero in 4–0.
+// Its limits: capacity in bits 27–12, ceiling in 11–5, zero in 4–0.
 fn limits_word(link: Link) -> u32
     requires { link.ceiling ≤ 64 }
     ensures { result ≡ limits_word link }
 {
-    (3 << 28) + ((link.capacity as u32) << 12) + ((link.ceiling as u32) << 5)
+    Kind::Limits.high_bits() + ((link.capacity as u32) << 12) + ((link.ceiling as u32) << 5)
 }
 
 impl Network {
@@ -44,6 +48,7 @@ impl Network {
             return Err(Fault::Length { words: words.len() });
         }
         words[0] = header_word(self.nodes(), links.len());
+        // By index: of a slice that was lent in chunks, a proof knows the length alone.
         for (e, link) in links.iter().enumerate() {
             words[2 * e + 1] = ends_word(*link);
             words[2 * e + 2] = limits_word(*link);

@@ -1,4 +1,3 @@
-pub mod Reading
-pub mod Checks
+pub mod Bytes
 pub mod Logs
-pub mod Whole
+pub mod Search

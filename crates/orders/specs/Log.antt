@@ -1,5 +1,5 @@
 -- The lines of the log, and the whole log of an input.
-use Rattle.std.specs.Prelude.{◌≡◌, ℕ, ◌+◌, ◌%◌, ◌≤◌, Bool, true, cond, ◌⊎◌, List, [], ◌∷◌, ◌++◌, length, take, drop, Some, Ok, Err, codes, decimal, Result, ◌==◌, ◌≢◌}
+use Rattle.std.specs.Prelude.{◌≡◌, ℕ, ◌+◌, ◌%◌, Bool, true, cond, ◌⊎◌, List, [], ◌∷◌, ◌++◌, length, take, drop, Some, Ok, Err, codes, decimal, Result, ◌==◌, ◌≢◌}
 use Rattle.line.specs.Held.{spaced}
 use Rattle.network.specs.declared.fault.Fault.{Fault}
 use Rattle.network.specs.declared.network.Network.{Network}
@@ -42,7 +42,6 @@ pub record Logged (net : Network) (o : Reserve) (serial : ℕ) (before after : L
   pub quoted : Quoted net o (unfit (node_count net) o serial) answer
   pub line : after ≡ before ++ answer_line serial answer
   pub serials : next ≡ next_serial serial answer
-  pub bound : next ≤ 268435456
 
 -- the log of the order words on a network, from a serial on: a line for each order with its answer, until the words end;
 -- NO 9 where no order can be read, or where bytes are left over, ends it

@@ -1,5 +1,6 @@
 -- Order words, and what each order is answered.
 use Rattle.std.specs.Prelude.{◌≡◌, ℕ, ◌+◌, ◌*◌, Bool, cond, ◌&&◌, List, [], ◌∷◌, length, drop, Some, None, Ok, Err, Option, Result, ◌==◌, nat_le, nat_lt, slice_index_or}
+use Rattle.std.specs.Option.{option_or}
 use Rattle.network.specs.declared.link.Link.{Link}
 use Rattle.network.specs.declared.network.Network.{Network}
 use Rattle.network.specs.Format.{bits, kind}
@@ -65,11 +66,6 @@ unfit nodes o serial =
 abbrev pub short : ℕ → ℕ → ℕ → ℕ → Option Refusal
 short nodes links words entries = cond (nat_le (6 * nodes + 2 * links) words && nat_le nodes entries) None (Some ShortBuffer)
 
--- the first that there is
-abbrev pub or_else : Option Refusal → Option Refusal → Option Refusal
-or_else None later = later
-or_else (Some f) later = Some f
-
 -- the links whose capacity is at least the amount
 abbrev pub room_for : List Link → ℕ → ℕ → Bool
 room_for links amount e = nat_le amount (slice_index_or links e blank).capacity
@@ -90,4 +86,4 @@ Quoted net o fault (Err ShortBuffer) = fault ≡ Some ShortBuffer
 
 -- what is wrong before any search
 abbrev pub fault_of : Network → Reserve → ℕ → ℕ → ℕ → Option Refusal
-fault_of net o serial words entries = or_else (unfit (node_count net) o serial) (short (node_count net) (length (link_list net)) words entries)
+fault_of net o serial words entries = option_or (unfit (node_count net) o serial) (short (node_count net) (length (link_list net)) words entries)

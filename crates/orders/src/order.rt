@@ -1,9 +1,8 @@
 // Orders from words.
-ghost use Rattle.orders.specs.Orders.{after_next, is_reserve, left, next_of, reserve_of};
-ghost use Rattle.std.specs.Prelude.{◌≡◌};
+ghost use Rattle.std.specs.Prelude.{◌≡◌, ◌≤◌, length, if◌then◌else◌};
 
 // A reserve: two nodes, an amount and how long it may stay pending.
-#[derive(Clone, Copy)]
+#[derive(Clone, Copy, Debug, PartialEq, Eq)]
 pub struct Reserve {
     pub source: u8,
     pub target: u8,
@@ -12,20 +11,60 @@ pub struct Reserve {
 }
 
 // What stands where an order should: a word of another kind, a reserve without its hold time, or part of a word.
-#[derive(Clone, Copy)]
+#[derive(Clone, Copy, Debug, PartialEq, Eq)]
 pub enum Unreadable {
-    NoOrder,
+    NoOrder = 9,
 }
 
-// Order words, and the place of the next one. `whole` says that no bytes are left over behind the last word.
+impl Unreadable {
+    // The number by which a log names it.
+    pub fn number(self) -> u8
+        ensures { result ≡ 9 }
+    {
+        self as u8
+    }
+}
+
+// What a word of an order says, by its bits 31–28.
+enum Kind {
+    // The nodes and the amount of a reserve.
+    Reserve = 5,
+    // How long it may stay pending.
+    Hold = 6,
+}
+
+impl Reserve {
+    ghost use Rattle.orders.specs.Orders.{is_reserve, reserve_of};
+
+    // The reserve that two words are, if they are of its kinds.
+    fn from_words(first: u32, second: u32) -> Option<Reserve>
+        ensures { result ≡ (if is_reserve first second then Some (reserve_of first second) else None) }
+    {
+        if first >> 28 != Kind::Reserve as u32 || second >> 28 != Kind::Hold as u32 {
+            return None;
+        }
+        Some(Reserve {
+            source: (first >> 22 & 0x3f) as u8,
+            target: (first >> 16 & 0x3f) as u8,
+            amount: (first & 0xffff) as u16,
+            hold: second & 0x0fff_ffff,
+        })
+    }
+}
+
+// Order words, and the place of the next one. `whole` says that no bytes are left over behind the last word. It is no
+// iterator: a word that cannot be read stays the next one, and a caller sees where the reader stopped.
 #[derive(Drop)]
 pub struct OrderReader<'a> {
     words: &'a [u32],
     place: usize,
     whole: bool,
+    ghost within: { place ≤ length words.now },
 }
 
 impl<'a> OrderReader<'a> {
+    ghost use Rattle.orders.specs.Orders.{after_next, left, next_of};
+
     pub fn new(words: &'a [u32], whole: bool) -> OrderReader<'a>
         ensures words { left result ≡ words.now }
         ensures whole { result.whole ≡ whole }
@@ -43,41 +82,14 @@ impl<'a> OrderReader<'a> {
         ensures rest { left self.new ≡ after_next (left self.old) }
         ensures whole { self.new.whole ≡ self.old.whole }
     {
-        if self.place >= self.words.len() {
-            return if self.whole {
-                Ok(None)
-            } else {
-                Err(Unreadable::NoOrder)
-            };
+        match &self.words[self.place..] {
+            [] if self.whole => Ok(None),
+            [first, second, ..] => {
+                let order = Reserve::from_words(*first, *second).ok_or(Unreadable::NoOrder)?;
+                self.place += 2;
+                Ok(Some(order))
+            }
+            _ => Err(Unreadable::NoOrder),
         }
-        if self.words.len() - self.place < 2 {
-            return Err(Unreadable::NoOrder);
-        }
-        let first = self.words[self.place];
-        let second = self.words[self.place + 1];
-        if !is_reserve(first, second) {
-            return Err(Unreadable::NoOrder);
-        }
-        self.place += 2;
-        Ok(Some(reserve_of(first, second)))
-    }
-}
-
-// Whether two words are a reserve: kind 5, then kind 6.
-fn is_reserve(first: u32, second: u32) -> bool
-    ensures { result ≡ is_reserve first second }
-{
-    first / 268_435_456 == 5 && second / 268_435_456 == 6
-}
-
-// The reserve of two words.
-fn reserve_of(first: u32, second: u32) -> Reserve
-    ensures { result ≡ reserve_of first second }
-{
-    Reserve {
-        source: (first / 4_194_304 % 64) as u8,
-        target: (first / 65_536 % 64) as u8,
-        amount: (first % 65_536) as u16,
-        hold: second % 268_435_456,
     }
 }

@@ -8,6 +8,7 @@ use crate::order::Reserve;
 use crate::refusal::Refusal;
 use network::{Link, Network};
 use routing::{NodeKey, Pair, find_pair};
+use std::array;
 
 const LONGEST_HOLD: u32 = 86_400;
 
@@ -40,15 +41,12 @@ fn with_room(links: &[Link], amount: u16) -> [bool; 128]
     requires { length links.now ≤ 128 }
     ensures { (e : ℕ) → e < length links.now → allowed result e ≡ room_for links.now amount e }
 {
-    let mut usable = [false; 128];
-    for (e, link) in links.iter().enumerate() {
-        usable[e] = link.capacity >= amount;
-    }
-    usable
+    array::from_fn(|e| links.get(e).is_some_and(|link| link.capacity >= amount))
 }
 
 // The best pair for an order over the links with room for its amount, where `serial` is the next one to give. Nothing is
-// held. The buffers are as in a search for a pair; an order that is refused before the search leaves them as they are.
+// held. The buffers are lent as slices, as in a search for a pair; an order that is refused before the search leaves them as
+// they are.
 pub fn quote(
     network: &Network,
     order: Reserve,
@@ -64,6 +62,5 @@ pub fn quote(
 {
     check(network.nodes(), order, serial)?;
     let usable = with_room(network.links(), order.amount);
-    let found = find_pair(network, &usable, order.source, order.target, words, entries)?;
-    found.ok_or(Refusal::NoPair)
+    find_pair(network, &usable, order.source, order.target, words, entries)?.ok_or(Refusal::NoPair)
 }

@@ -5,22 +5,22 @@ ghost use Rattle.std.specs.Prelude.{◌≡◌};
 
 use routing::SearchFault;
 
-#[derive(Clone, Copy)]
+#[derive(Clone, Copy, Debug, PartialEq, Eq)]
 pub enum Refusal {
     // The source or the target is no node of the network.
-    NoSuchNode,
+    NoSuchNode = 21,
     // The source is the target.
-    SameNode,
+    SameNode = 22,
     // The amount is 0.
-    NoAmount,
+    NoAmount = 23,
     // The hold time is 0 or above 86,400.
-    HoldTime,
+    HoldTime = 24,
     // Every serial has been given.
-    SerialsUsedUp,
+    SerialsUsedUp = 26,
     // The search has too few words or entries to work with.
-    ShortBuffer,
+    ShortBuffer = 27,
     // No two paths without a common link have room for the amount.
-    NoPair,
+    NoPair = 28,
 }
 
 impl Refusal {
@@ -28,15 +28,7 @@ impl Refusal {
     pub fn number(self) -> u8
         ensures { result ≡ number_of self }
     {
-        match self {
-            Refusal::NoSuchNode => 21,
-            Refusal::SameNode => 22,
-            Refusal::NoAmount => 23,
-            Refusal::HoldTime => 24,
-            Refusal::SerialsUsedUp => 26,
-            Refusal::ShortBuffer => 27,
-            Refusal::NoPair => 28,
-        }
+        self as u8
     }
 }
 

@@ -1,42 +1,28 @@
 // What the cheapest pair costs between every two nodes of a network, for callers in C and C++.
 #![tactic(auto)]
 
-ghost use Rattle.std.specs.Prelude.{◌≡◌, ◌*◌, ◌<◌, ◌≤◌, length};
+ghost use Rattle.std.specs.Prelude.{◌≡◌, ◌*◌, ◌<◌, length};
 ghost use Rattle.network.specs.Limits.{Sound};
 ghost use Rattle.network.specs.Networks.{link_list, node_count};
 ghost use Rattle.pair_costs.specs.Table.{CostBetween, CostTable, Tabulates};
 
 use network::{Network, read};
-use routing::{NodeKey, Reach, find_pair};
+use routing::{Workspace, find_pair};
 use std::alloc::Global;
-
-// What finding a pair in the largest network needs: 6 words a node and 2 a link, and an entry a node.
-const MOST_WORDS: usize = 448;
-
-const MOST_NODES: usize = 32;
 
 const MOST_LINKS: usize = 128;
 
 // What the cheapest pair from `source` to `target` costs, or 0.
-fn cost_between(
-    network: &Network,
-    source: u8,
-    target: u8,
-    words: &mut [u32],
-    entries: &mut [NodeKey],
-) -> u32
+fn cost_between(network: &Network, source: u8, target: u8, workspace: &mut Workspace) -> u32
     requires sound { Sound (node_count network.now) (link_list network.now) }
     requires ends { (source < node_count network.now) × (target < node_count network.now) }
-    requires room { (448 ≤ length words.old) × (32 ≤ length entries.old) }
     ensures { CostBetween (link_list network.now) source target result }
 {
+    let Workspace { words, entries } = workspace;
     let Ok(found) = find_pair(network, &[true; MOST_LINKS], source, target, words, entries) else {
         return 0;
     };
-    match found {
-        Some(pair) => pair.cost,
-        None => 0,
-    }
+    found.map_or(0, |pair| pair.cost)
 }
 
 // Fills the table, for which there is exactly room.
@@ -46,20 +32,17 @@ fn fill(network: &Network, costs: &mut [u32])
     ensures { CostTable (node_count network.now) (link_list network.now) costs.new }
 {
     let nodes = network.nodes() as usize;
-    let mut words = [0u32; MOST_WORDS];
-    let mut entries = [NodeKey {
-        reach: Reach::NotReached,
-        node: 0,
-    }; MOST_NODES];
-    for k in 0..costs.len() {
+    let mut workspace = Workspace::new();
+    // One loop over all places: of what is written through the rows of `chunks_exact_mut` a proof knows only the length.
+    for (k, cost) in costs.iter_mut().enumerate() {
         let source = (k / nodes) as u8;
         let target = (k % nodes) as u8;
-        costs[k] = cost_between(network, source, target, &mut words, &mut entries);
+        *cost = cost_between(network, source, target, &mut workspace);
     }
 }
 
 // Reads a network of some n nodes from `words`, and writes what the cheapest pair from s to t costs to `costs[s * n + t]`,
-// or 0 where there is none. False where the words are refused or `costs` is too short.
+// or 0 where there is none. False where the words are refused or `costs` is too short: C has no `Result`.
 #[unsafe(no_mangle)]
 pub extern "C" fn pair_costs(heap: Global, words: &[u32], costs: &mut [u32]) -> bool
     ensures { Tabulates words.now costs.old costs.new result }

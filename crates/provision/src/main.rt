@@ -2,8 +2,7 @@
 #![tactic(auto)]
 
 use orders::run;
-use std::io;
-use std::io::{Read, Write};
+use std::io::{self, Read, Write};
 
 fn main(rt: HostRuntime) -> io::Result<()> {
     let mut input = Vec::new(rt.alloc());

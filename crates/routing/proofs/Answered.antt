@@ -3,42 +3,44 @@ use Rattle.std.proofs.Common.{◌≡◌, ℕ, zero, suc, ◌<◌, ◌≤◌, Boo
 use Rattle.std.specs.List.{AllByRecursion}
 use Rattle.std.proofs.lemmas.List.{get_or_past}
 use Rattle.std.proofs.lemmas.Bool.{eq-eqb, ne_eqb, ltb-true, ltb-false, cases_eq, cases_lt, cond-true, cond-false}
-use Rattle.graph.specs.declared.arc.Arc.{Arc}
-use Rattle.graph.specs.Arcs.{Within}
+use Rattle.graph.specs.declared.graph.Graph.{Graph}
+use Rattle.graph.specs.Graphs.{node_count}
 use Rattle.paths.specs.Pairs.{Digraph, Absent, Walk, Cheapest, cost as cost_of}
 use Rattle.paths.proofs.Agree.{cheapest_turned}
 use Rattle.routing.specs.declared.path.Path.{Path}
 use Rattle.routing.specs.declared.extract.Track.{Track}
-use Rattle.routing.specs.Entries.{usable}
+use Rattle.routing.specs.declared.state.State.{State}
+use Rattle.routing.specs.declared.state.State.TheVariants.{LeftOut, Free}
+use Rattle.routing.specs.Entries.{is_chosen, may_serve, usable}
 use Rattle.routing.specs.Found.{links_of, allowed, Best, precedes, paired}
 use Rattle.routing.specs.Taking.{Ready, Marked}
-use Rattle.routing.specs.Views.{arc_graph}
+use Rattle.routing.specs.Views.{net_of}
 
-flag_le : (b : Bool) → cond b 1 0 ≤ 1
-flag_le true = omega arith
-flag_le false = omega arith
+unchosen : (b : Bool) → is_chosen (cond b Free LeftOut) ≡ false
+unchosen true = refl
+unchosen false = refl
 
-flag_lt : (b : Bool) → ltb 0 (cond b 1 0) ≡ b
-flag_lt true = refl
-flag_lt false = refl
+served : (b : Bool) → may_serve (cond b Free LeftOut) ≡ b
+served true = refl
+served false = refl
 
-pub marked_ready : (n : ℕ) (arcs : List Arc) (flags : List Bool) (states : List ℕ) → Within n arcs → length states ≡ length arcs → Marked flags states → Ready (arc_graph arcs) states n
-marked_ready n arcs flags states W long M = record {
-  small = W.nodes.1;
-  links = W.few;
-  stated = long;
-  tails = W.tails;
-  heads = W.heads;
-  costs = W.light;
-  dear = W.dear;
+pub marked_ready : (g : Graph) (flags : List Bool) (states : List State) → length states ≡ 128 → Marked flags states → Ready (net_of g) states (node_count g)
+marked_ready g flags states long M = record {
+  small = g.small;
+  links = g.few;
+  stated = omega (arith, g.few);
+  tails = λ e l. (g.sound e l).0;
+  heads = λ e l. (g.sound e l).1;
+  costs = λ e l. (g.sound e l).3;
+  dear = λ e l. (g.sound e l).2;
   plain = λ e. elim (cases_lt e (length states)) [
-    | inl l ↦ omega (arith, M e l, flag_le (get_or flags e false))
-    | inr l ↦ omega (arith, get_or_past states e 0 l)
+    | inl l ↦ (ap is_chosen (M e l) ∙ unchosen (get_or flags e false))
+    | inr l ↦ ap is_chosen (get_or_past states e LeftOut l)
   ];
 }
 
-pub marked_usable : (flags : List Bool) (states : List ℕ) → Marked flags states → (e : ℕ) → e < length states → allowed flags e ≡ usable states e
-marked_usable flags states M e l = sym (ap (ltb 0) (M e l) ∙ flag_lt (get_or flags e false))
+pub marked_usable : (flags : List Bool) (states : List State) → Marked flags states → (e : ℕ) → e < length states → allowed flags e ≡ usable states e
+marked_usable flags states M e l = sym (ap may_serve (M e l) ∙ served (get_or flags e false))
 
 -- ---- the first links
 some_link : (net : Digraph) (s t : ℕ) (ls : List ℕ) → Walk net s ls t → (s ≡ t → ⊥) → 0 < length ls

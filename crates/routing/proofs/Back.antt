@@ -1,19 +1,21 @@
 -- The raised potentials, and the walk back.
-use Rattle.std.proofs.Common.{◌≡◌, ℕ, ◌+◌, ◌-◌, ◌*◌, ◌<◌, ◌≤◌, true, false, eqb, ltb, List, ◌∷◌, length, get_or, set, sym, refl, ap, ◌∙◌, subst, inl, inr, arith}
+use Rattle.std.proofs.Common.{◌≡◌, ℕ, ◌+◌, ◌-◌, ◌*◌, ◌<◌, ◌≤◌, true, false, List, ◌∷◌, length, get_or, set, sym, refl, ap, ◌∙◌, subst, inl, inr, arith}
 use Rattle.std.proofs.lemmas.List.{get_or-set_same, get_or-set_other}
-use Rattle.std.proofs.lemmas.Bool.{lt-ltb, ltb-true, eqb-true, eqb-false, cases_eq, cases_lt, cond-true, cond-false}
+use Rattle.std.proofs.lemmas.Bool.{cases_eq, cases_lt, cond-true, cond-false}
 use Rattle.routing.specs.Orders.{NoFarther}
 use Rattle.routing.specs.declared.key.NodeKey.{NodeKey}
 use Rattle.routing.specs.declared.key.Reach.{Reach}
 use Rattle.routing.specs.declared.key.Reach.TheVariants.{At, NotReached}
+use Rattle.routing.specs.declared.state.State.{State}
+use Rattle.routing.specs.declared.state.State.TheVariants.{LeftOut, Free, Chosen}
 use Rattle.paths.specs.Pairs.{Digraph}
 use Rattle.paths.specs.Flow.{Certified, Carries}
 use Rattle.paths.proofs.Augment.{Off, add_from, drop_from, certified_flip, carries_more}
-use Rattle.routing.specs.Entries.{node_at, reach_at, place, in_f, usable, pot}
+use Rattle.routing.specs.Entries.{node_at, reach_at, place, state_at, is_chosen, may_serve, in_f, usable, pot}
 use Rattle.routing.specs.Settle.{Fit, Leads, Settled, Arrived}
 use Rattle.routing.specs.Back.{lift, Raised, toward, Step, Chain, Walking, Walked}
 use Rattle.routing.proofs.Places.{place_at, place_is, one_place}
-use Rattle.routing.proofs.Settles.{forth, backs, in_used, not_used}
+use Rattle.routing.proofs.Settles.{forth, backs, in_used, not_used, is_free, is_used}
 
 pub lift_le : (r : Reach) (D : ℕ) → lift r D ≤ D
 lift_le (At x) D = omega arith
@@ -30,7 +32,7 @@ lift_far NotReached D h = refl
 lift_near : (r : Reach) (D x : ℕ) → r ≡ At x → NoFarther r (At D) → lift r D ≡ x
 lift_near r D x q h = let l : NoFarther (At x) (At D) = subst (λ (a : Reach). NoFarther a (At D)) q h in ap (λ a. lift a D) q ∙ omega arith
 
-module _ (net : Digraph) (states pots pots' preds : List ℕ) (s t : ℕ) (xs : List NodeKey) (len D : ℕ)
+module _ (net : Digraph) (states : List State) (pots pots' preds : List ℕ) (s t : ℕ) (xs : List NodeKey) (len D : ℕ)
     (A : Arrived net states pots preds s t xs len D) (F : Fit net states pots (length xs)) (R : Raised xs pots pots' D) where
   S : Settled net states pots preds s xs len (λ _. false)
   S = A.settled
@@ -58,8 +60,8 @@ module _ (net : Digraph) (states pots pots' preds : List ℕ) (s t : ℕ) (xs : 
       lift_short (reach_at xs (place xs v)) D y (S.relaxed (place xs u) e (place xs v) x y (omega arith) p.0 (λ z. absurd (omega arith)) q.0 at
       (subst (λ a. Leads net states pots e a (node_at xs (place xs v)) x y) (sym p.1) (subst (λ b. Leads net states pots e u b x y) (sym q.1) ld)))
 
-  state_one : (e : ℕ) → e < net.size → usable states e ≡ true → in_f states e ≡ false → get_or states e 0 ≡ 1
-  state_one e l u f = omega (arith, F.kinds e l, ltb-true 0 (get_or states e 0) u, eqb-false (get_or states e 0) 2 f)
+  state_one : (e : ℕ) → e < net.size → usable states e ≡ true → in_f states e ≡ false → state_at states e ≡ Free
+  state_one e l u f = is_free (state_at states e) u f
 
   pub raised_certified : Certified net (usable states) (in_f states) (pot pots')
   raised_certified = record {
@@ -78,7 +80,7 @@ module _ (net : Digraph) (states pots pots' preds : List ℕ) (s t : ℕ) (xs : 
               omega (
                 arith,
                 early (place xs u) g.0 (omega arith) (at_place u lu).0 g.1,
-                relaxes e u v g.0 _ lu lv a g.1 (backs net states pots (length xs) F e u u g.0 l (eqb-true (get_or states e 0) 2 f) refl refl),
+                relaxes e u v g.0 _ lu lv a g.1 (backs net states pots (length xs) F e u u g.0 l (is_used (state_at states e) f) refl refl),
               ))
           | inr b ↦ omega (arith, late (place xs u) b, lift_le (reach_at xs (place xs v)) D)
         ];
@@ -144,8 +146,8 @@ module _ (net : Digraph) (states pots pots' preds : List ℕ) (s t : ℕ) (xs : 
   raised_low ls lt B b v l = omega (arith, raised_at v l, lift_le (reach_at xs (place xs v)) D, A.short, b v l, b s ls)
 
 -- ---- one step of the walk back
-module _ (net : Digraph) (was pots preds : List ℕ) (s t : ℕ) (xs : List NodeKey) (len : ℕ) (Ch : Chain net was pots preds xs len s)
-    (states : List ℕ) (v : ℕ) (W : Walking net was pots xs len t states v) (other : v ≡ s → ⊥) where
+module _ (net : Digraph) (was : List State) (pots preds : List ℕ) (s t : ℕ) (xs : List NodeKey) (len : ℕ) (Ch : Chain net was pots preds xs len s)
+    (states : List State) (v : ℕ) (W : Walking net was pots xs len t states v) (other : v ≡ s → ⊥) where
   here : (place xs v < length xs) × (node_at xs (place xs v) ≡ v)
   here = place_at xs v (Ch.once v W.node)
 
@@ -155,27 +157,27 @@ module _ (net : Digraph) (was pots preds : List ℕ) (s t : ℕ) (xs : List Node
   abbrev e : ℕ
   e = get_or preds v 0
 
-  now_was : get_or states e 0 ≡ get_or was e 0
+  now_was : state_at states e ≡ state_at was e
   now_was = W.kept e (place xs v) (omega arith) here.0 link_back.to
 
-  module _ (x w : ℕ) (room : length states ≡ net.size) (some : 0 < x) (two : x ≤ 2) (to : w ≡ node_at xs link_back.j) where
-    abbrev states' : List ℕ
+  module _ (x : State) (w : ℕ) (room : net.size ≤ length states) (serves : may_serve x ≡ true) (to : w ≡ node_at xs link_back.j) where
+    abbrev states' : List State
     states' = set states e x
 
     there : place xs w ≡ link_back.j
     there = place_is xs w link_back.j (Ch.once w (omega (arith, to, Ch.nodes link_back.j link_back.fits))) link_back.fits (sym to)
 
-    put : get_or states' e 0 ≡ x
-    put = get_or-set_same states e x 0 (omega (arith, link_back.within))
+    put : state_at states' e ≡ x
+    put = get_or-set_same states e x LeftOut (omega (arith, link_back.within))
 
-    left_alone : (i : ℕ) → (i ≡ e → ⊥) → get_or states' i 0 ≡ get_or states i 0
-    left_alone i d = get_or-set_other states e i x 0 d
+    left_alone : (i : ℕ) → (i ≡ e → ⊥) → state_at states' i ≡ state_at states i
+    left_alone i d = get_or-set_other states e i x LeftOut d
 
     off : Off e (in_f states) (in_f states')
-    off i d = ap (λ a. eqb a 2) (left_alone i d)
+    off i d = ap is_chosen (left_alone i d)
 
     usable_was : usable was e ≡ true
-    usable_was = elim link_back.state [ inl q ↦ lt-ltb 0 (get_or was e 0) (omega arith) | inr q ↦ lt-ltb 0 (get_or was e 0) (omega arith) ]
+    usable_was = elim link_back.state [ inl q ↦ ap may_serve q | inr q ↦ ap may_serve q ]
 
     pub closer : length xs - place xs w < length xs - place xs v
     closer = omega (arith, there, link_back.after, link_back.fits)
@@ -193,13 +195,9 @@ module _ (net : Digraph) (was pots preds : List ℕ) (s t : ℕ) (xs : List Node
             | inl z ↦ absurd (omega (arith, one_place xs (node_at xs k) k (place xs v) (Ch.once (node_at xs k) (Ch.nodes k kn)) kn here.0 refl (sym link_back.to ∙ ap (toward net was) (sym z) ∙ q)))
             | inr d ↦ (left_alone i d ∙ W.kept i k (omega arith) kn q)
           ];
-          kinds = λ i h. elim (cases_eq i e) [
-            | inl z ↦ omega (arith, ap (λ a. get_or states' a 0) z, put)
-            | inr d ↦ omega (arith, left_alone i d, W.kinds i h)
-          ];
           same = λ i. elim (cases_eq i e) [
-            | inl z ↦ (ap (usable states') z ∙ ap (λ a. ltb 0 a) put ∙ lt-ltb 0 x some ∙ sym usable_was ∙ ap (usable was) (sym z))
-            | inr d ↦ (ap (λ a. ltb 0 a) (left_alone i d) ∙ W.same i)
+            | inl z ↦ (ap (usable states') z ∙ ap may_serve put ∙ serves ∙ sym usable_was ∙ ap (usable was) (sym z))
+            | inr d ↦ (ap may_serve (left_alone i d) ∙ W.same i)
           ];
           certified = C;
           carries = K;
@@ -208,35 +206,35 @@ module _ (net : Digraph) (was pots preds : List ℕ) (s t : ℕ) (xs : List Node
     certain : Certified net (usable was) (in_f states') (pot pots)
     certain = certified_flip net (in_f states) (in_f states') e link_back.within off (usable was) (pot pots) usable_was link_back.tight W.certified
 
-  module _ (room : length states ≡ net.size) where
+  module _ (room : net.size ≤ length states) where
     -- an arc of F is taken out, and the walk goes on at its head
-    pub used_to : get_or states e 0 ≡ 2 → net.head e ≡ node_at xs link_back.j
+    pub used_to : state_at states e ≡ Chosen → net.head e ≡ node_at xs link_back.j
     used_to q = sym (cond-true (in_f was e) (net.head e) (net.tail e) (in_used was e (sym now_was ∙ q))) ∙ link_back.from
 
-    pub used_step : get_or states e 0 ≡ 2 → Walking net was pots xs len t (set states e 1) (net.head e)
+    pub used_step : state_at states e ≡ Chosen → Walking net was pots xs len t (set states e Free) (net.head e)
     used_step q =
-        let h : get_or was e 0 ≡ 2 = sym now_was ∙ q in
+        let h : state_at was e ≡ Chosen = sym now_was ∙ q in
         let at : net.tail e ≡ v = sym (cond-true (in_f was e) (net.tail e) (net.head e) (in_used was e h)) ∙ link_back.to ∙ here.1 in
-        walks 1 (net.head e) room (omega arith) (omega arith) (used_to q) (certain 1 (net.head e) room (omega arith) (omega arith) (used_to q))
-        (λ A B K. drop_from net (in_f states) (in_f (set states e 1)) e link_back.within (off 1 (net.head e) room (omega arith) (omega arith) (used_to q)) A (t ∷ B)
-        (in_used states e q) (not_used (set states e 1) e (put 1 (net.head e) room (omega arith) (omega arith) (used_to q)))
+        walks Free (net.head e) room refl (used_to q) (certain Free (net.head e) room refl (used_to q))
+        (λ A B K. drop_from net (in_f states) (in_f (set states e Free)) e link_back.within (off Free (net.head e) room refl (used_to q)) A (t ∷ B)
+        (in_used states e q) (not_used (set states e Free) e (put Free (net.head e) room refl (used_to q)))
         (λ π. omega (arith, W.carries A B K π, ap π at)))
 
-    one : (get_or states e 0 ≡ 2 → ⊥) → get_or was e 0 ≡ 1
+    one : (state_at states e ≡ Chosen → ⊥) → state_at was e ≡ Free
     one d = elim link_back.state [ inl q ↦ q | inr q ↦ absurd (d (now_was ∙ q)) ]
 
-    pub free_to : (get_or states e 0 ≡ 2 → ⊥) → net.tail e ≡ node_at xs link_back.j
+    pub free_to : (state_at states e ≡ Chosen → ⊥) → net.tail e ≡ node_at xs link_back.j
     free_to d = sym (cond-false (in_f was e) (net.head e) (net.tail e) (not_used was e (one d))) ∙ link_back.from
 
-    pub free_step : (get_or states e 0 ≡ 2 → ⊥) → Walking net was pots xs len t (set states e 2) (net.tail e)
+    pub free_step : (state_at states e ≡ Chosen → ⊥) → Walking net was pots xs len t (set states e Chosen) (net.tail e)
     free_step d =
         let at : net.head e ≡ v = sym (cond-false (in_f was e) (net.tail e) (net.head e) (not_used was e (one d))) ∙ link_back.to ∙ here.1 in
-        walks 2 (net.tail e) room (omega arith) (omega arith) (free_to d) (certain 2 (net.tail e) room (omega arith) (omega arith) (free_to d))
-        (λ A B K. add_from net (in_f states) (in_f (set states e 2)) e link_back.within (off 2 (net.tail e) room (omega arith) (omega arith) (free_to d)) A (t ∷ B)
-        (not_used states e (now_was ∙ one d)) (in_used (set states e 2) e (put 2 (net.tail e) room (omega arith) (omega arith) (free_to d)))
+        walks Chosen (net.tail e) room refl (free_to d) (certain Chosen (net.tail e) room refl (free_to d))
+        (λ A B K. add_from net (in_f states) (in_f (set states e Chosen)) e link_back.within (off Chosen (net.tail e) room refl (free_to d)) A (t ∷ B)
+        (not_used states e (now_was ∙ one d)) (in_used (set states e Chosen) e (put Chosen (net.tail e) room refl (free_to d)))
         (λ π. omega (arith, W.carries A B K π, ap π at)))
 
-pub walk_starts : (net : Digraph) (was pots preds : List ℕ) (s t : ℕ) (xs : List NodeKey) (len : ℕ) → Chain net was pots preds xs len s →
+pub walk_starts : (net : Digraph) (was : List State) (pots preds : List ℕ) (s t : ℕ) (xs : List NodeKey) (len : ℕ) → Chain net was pots preds xs len s →
     Certified net (usable was) (in_f was) (pot pots) → len < length xs → node_at xs len ≡ t → Walking net was pots xs len t was t
 walk_starts net was pots preds s t xs len Ch C l q =
     let lt : t < length xs = omega (arith, Ch.nodes len l) in
@@ -244,15 +242,13 @@ walk_starts net was pots preds s t xs len Ch C l q =
       node = lt;
       behind = omega (arith, place_is xs t len (Ch.once t lt) l q);
       kept = λ e k a b z. refl;
-      kinds = λ e h. h;
       same = λ e. refl;
       certified = C;
       carries = λ A B K. carries_more net (in_f was) t A B K;
     }
 
-pub walk_ends : (net : Digraph) (was pots : List ℕ) (s t : ℕ) (xs : List NodeKey) (len : ℕ) (states : List ℕ) (v : ℕ) → Walking net was pots xs len t states v → v ≡ s → Walked net was pots states s t
+pub walk_ends : (net : Digraph) (was : List State) (pots : List ℕ) (s t : ℕ) (xs : List NodeKey) (len : ℕ) (states : List State) (v : ℕ) → Walking net was pots xs len t states v → v ≡ s → Walked net was pots states s t
 walk_ends net was pots s t xs len states v W q = record {
-  kinds = W.kinds;
   same = W.same;
   certified = W.certified;
   carries = λ A B K. subst (λ w. Carries net (in_f states) (w ∷ A) (t ∷ B)) q (W.carries A B K);

@@ -1,18 +1,20 @@
 -- How what is settled lasts from step to step.
 use Rattle.std.proofs.Common.{◌≡◌, ℕ, suc, ◌+◌, ◌-◌, ◌*◌, ◌<◌, ◌≤◌, Bool, true, false, cond, eqb, ltb, ◌⊎◌, List, length, get_or, set, sym, refl, ap, ◌∙◌, subst, inl, inr, arith, length-set}
 use Rattle.std.proofs.lemmas.List.{get_or-set_same, get_or-set_other}
-use Rattle.std.proofs.lemmas.Bool.{both_ways, eq-eqb, ne_eqb, lt-ltb, le-ltb, ltb-true, eqb-true, eqb-false, cases_eq, cases_lt, cond-true, cond-false}
-use Rattle.heap.specs.Least.{IsHeap, Moved, Least}
+use Rattle.std.proofs.lemmas.Bool.{both_ways, eq-eqb, ne_eqb, lt-ltb, le-ltb, ltb-true, cases_eq, cases_lt, cond-true, cond-false}
+use Rattle.heap.specs.Least.{Moved, Least}
 use Rattle.heap.proofs.Moves.{rest_at}
-use Rattle.routing.specs.Orders.{key_order, NoFarther}
+use Rattle.routing.specs.Orders.{key_cmp, NoFarther}
 use Rattle.routing.specs.declared.key.NodeKey.{NodeKey}
 use Rattle.routing.specs.declared.key.Reach.{Reach}
 use Rattle.routing.specs.declared.key.Reach.TheVariants.{At, NotReached}
+use Rattle.routing.specs.declared.state.State.{State}
+use Rattle.routing.specs.declared.state.State.TheVariants.{LeftOut, Free, Chosen}
 use Rattle.paths.specs.Pairs.{Digraph}
 use Rattle.paths.specs.Flow.{Certified}
-use Rattle.graph.specs.Index.{Indexed}
-use Rattle.routing.specs.Entries.{blank, node_at, reach_at, place, in_f, usable, pot}
-use Rattle.routing.specs.Settle.{Fit, Leads, Came, Settled, Settling, Offered, Stands, Kept, Missed, Severed, Arrived, more, Covered}
+use Rattle.graph.specs.Listing.{ListsArcs}
+use Rattle.routing.specs.Entries.{blank, node_at, reach_at, place, state_at, is_chosen, may_serve, in_f, usable, pot}
+use Rattle.routing.specs.Settle.{Fit, Leads, Came, Settled, Offered, Stands, Kept, Missed, Severed, Arrived, more, Covered}
 use Rattle.routing.proofs.Ranks.{no_farther}
 use Rattle.routing.proofs.Places.{in_order, place_at, entries_moved, entries_set, one_place, below_moved, all_moved}
 
@@ -32,17 +34,32 @@ pub far_eq : (a b : Reach) → a ≡ b → NoFarther a b
 far_eq a b q = subst (NoFarther a) q (far_self a)
 
 -- ---- states of arcs
-pub in_used : (states : List ℕ) (e : ℕ) → get_or states e 0 ≡ 2 → in_f states e ≡ true
-in_used states e q = eq-eqb (get_or states e 0) 2 q
+pub in_used : (states : List State) (e : ℕ) → state_at states e ≡ Chosen → in_f states e ≡ true
+in_used states e q = ap is_chosen q
 
-pub not_used : (states : List ℕ) (e : ℕ) → get_or states e 0 ≡ 1 → in_f states e ≡ false
-not_used states e q = ne_eqb (get_or states e 0) 2 (λ z. omega arith)
+pub not_used : (states : List State) (e : ℕ) → state_at states e ≡ Free → in_f states e ≡ false
+not_used states e q = ap is_chosen q
 
-pub usable_one : (states : List ℕ) (e : ℕ) → get_or states e 0 ≡ 1 → usable states e ≡ true
-usable_one states e q = lt-ltb 0 (get_or states e 0) (omega arith)
+pub usable_one : (states : List State) (e : ℕ) → state_at states e ≡ Free → usable states e ≡ true
+usable_one states e q = ap may_serve q
+
+-- an arc that may be used and is not chosen is free
+pub is_free : (a : State) → may_serve a ≡ true → is_chosen a ≡ false → a ≡ Free
+is_free LeftOut u f = absurd (both_ways false refl u)
+is_free Free u f = refl
+is_free Chosen u f = absurd (both_ways true f refl)
+
+pub is_used : (a : State) → is_chosen a ≡ true → a ≡ Chosen
+is_used LeftOut u = absurd (both_ways false refl u)
+is_used Free u = absurd (both_ways false refl u)
+is_used Chosen u = refl
+
+-- free is not chosen
+pub not_both : (a : State) → a ≡ Free → a ≡ Chosen → ⊥
+not_both a p q = both_ways (is_chosen a) (ap is_chosen p) (ap is_chosen q)
 
 -- ---- residual arcs
-module _ (net : Digraph) (states pots : List ℕ) where
+module _ (net : Digraph) (states : List State) (pots : List ℕ) where
   pub leads_within : (e u v x y : ℕ) → Leads net states pots e u v x y → e < net.size
   leads_within e u v x y (inl f) = f.within
   leads_within e u v x y (inr b) = b.within
@@ -56,8 +73,8 @@ module _ (net : Digraph) (states pots : List ℕ) where
   -- one arc, one end, one distance
   pub leads_same : (e u v w x y z : ℕ) → Leads net states pots e u v x y → Leads net states pots e u w x z → (v ≡ w) × (y ≡ z)
   leads_same e u v w x y z (inl f) (inl g) = let q : v ≡ w = sym f.to ∙ g.to in (q, omega (arith, f.sum, g.sum, ap (pot pots) q))
-  leads_same e u v w x y z (inl f) (inr g) = absurd (omega (arith, f.state, g.state))
-  leads_same e u v w x y z (inr f) (inl g) = absurd (omega (arith, f.state, g.state))
+  leads_same e u v w x y z (inl f) (inr g) = absurd (not_both (state_at states e) f.state g.state)
+  leads_same e u v w x y z (inr f) (inl g) = absurd (not_both (state_at states e) g.state f.state)
   leads_same e u v w x y z (inr f) (inr g) = let q : v ≡ w = sym f.to ∙ g.to in (q, omega (arith, f.sum, g.sum, ap (pot pots) q))
 
   pub leads_short : (e u v x y n : ℕ) → Fit net states pots n → Leads net states pots e u v x y → y + pot pots v ≤ x + pot pots u + 65535
@@ -296,15 +313,13 @@ module _ (net : Digraph) (states pots : List ℕ) where
             (subst (λ r. NoFarther r (At z)) (sym here) (leads_later e (node_at xs len) (node_at xs k) x z C d))
       ]
 
-  pub offered : (preds preds' : List ℕ) (s : ℕ) (xs ys : List NodeKey) (len : ℕ) (done : ℕ → Bool) (e v x y : ℕ) → Settling net states pots preds s xs len done →
+  pub offered : (preds preds' : List ℕ) (s : ℕ) (xs ys : List NodeKey) (len : ℕ) (done : ℕ → Bool) (e v x y : ℕ) → Settled net states pots preds s xs len done →
       Fit net states pots (length xs) → len < length xs → length preds ≡ length xs → reach_at xs len ≡ At x →
       Leads net states pots e (node_at xs len) v x y → Offered xs preds len v y e ys preds' →
-      Settling net states pots preds' s ys len (more done e)
+      Settled net states pots preds' s ys len (more done e)
   offered preds preds' s xs ys len done e v x y S F inside room here ld (inl p) =
-      subst (λ (q : List ℕ). Settling net states pots q s ys len (more done e)) (sym p.linked) (subst (λ (q : List NodeKey). Settling net states pots preds s q len (more done e)) (sym p.entries) (record {
-        heap = S.heap;
-        settled = skips preds s xs len done e x S.settled here (near_all preds s xs len done e v x y S.settled F.certified inside here ld p.near);
-      }))
+      subst (λ (q : List ℕ). Settled net states pots q s ys len (more done e)) (sym p.linked) (subst (λ (q : List NodeKey). Settled net states pots preds s q len (more done e)) (sym p.entries)
+      (skips preds s xs len done e x S here (near_all preds s xs len done e v x y S F.certified inside here ld p.near)))
   offered preds preds' s xs ys len done e v x y S F inside room here ld (inr p) =
       let below = p.below in
       let i = p.i in
@@ -313,12 +328,10 @@ module _ (net : Digraph) (states pots : List ℕ) where
       let r : get_or zs len blank ≡ get_or xs len blank = get_or-set_other xs i len (key v y) blank (omega arith) in
       let here' : reach_at zs len ≡ At x = ap (λ z. z.reach) r ∙ here in
       let ld' : Leads net states pots e (node_at zs len) v x y = subst (λ u. Leads net states pots e u v x y) (sym (ap (λ z. z.node) r)) ld in
-      let W : Settled net states pots (set preds v e) s zs len done = improves preds s xs len done i v x y e S.settled F below inside room p.node here ld p.nearer in
-      let N = near_all (set preds v e) s zs len done e v x y W F.certified (omega arith) here' ld' (improved_near preds s xs len done i v x y e S.settled F below inside room p.node here ld p.nearer) in
-      subst (λ (q : List ℕ). Settling net states pots q s ys len (more done e)) (sym p.linked) (record {
-        heap = p.heap S.heap;
-        settled = shuffled (set preds v e) s zs ys len (more done e) (skips (set preds v e) s zs len done e x W here' N) p.moved;
-      })
+      let W : Settled net states pots (set preds v e) s zs len done = improves preds s xs len done i v x y e S F below inside room p.node here ld p.nearer in
+      let N = near_all (set preds v e) s zs len done e v x y W F.certified (omega arith) here' ld' (improved_near preds s xs len done i v x y e S F below inside room p.node here ld p.nearer) in
+      subst (λ (q : List ℕ). Settled net states pots q s ys len (more done e)) (sym p.linked)
+      (shuffled (set preds v e) s zs ys len (more done e) (skips (set preds v e) s zs len done e x W here' N) p.moved)
 
   -- ---- 6. one arc
   pub stands_offered : (preds preds' : List ℕ) (xs ys : List NodeKey) (len v x w y e : ℕ) → Stands xs len v x → Offered xs preds len w y e ys preds' → Stands ys len v x
@@ -329,42 +342,40 @@ module _ (net : Digraph) (states pots : List ℕ) where
       record { at = ap (λ z. z.reach) r ∙ s.at; of = ap (λ z. z.node) r ∙ s.of }
 
   module _ (n : ℕ) (F : Fit net states pots n) (e u v x : ℕ) (within : e < net.size) where
-    pub forth_room : get_or states e 0 ≡ 1 → pot pots (net.head e) ≤ net.weight e + pot pots (net.tail e)
+    pub forth_room : state_at states e ≡ Free → pot pots (net.head e) ≤ net.weight e + pot pots (net.tail e)
     forth_room q = F.certified.free e within (usable_one states e q) (not_used states e q)
 
-    pub back_room : get_or states e 0 ≡ 2 → net.weight e + pot pots (net.tail e) ≤ pot pots (net.head e)
+    pub back_room : state_at states e ≡ Chosen → net.weight e + pot pots (net.tail e) ≤ pot pots (net.head e)
     back_room q = F.certified.used e within (in_used states e q)
 
-    pub forth : get_or states e 0 ≡ 1 → net.tail e ≡ v → u ≡ v → Leads net states pots e u (net.head e) x (x + (net.weight e + pot pots (net.tail e) - pot pots (net.head e)))
+    pub forth : state_at states e ≡ Free → net.tail e ≡ v → u ≡ v → Leads net states pots e u (net.head e) x (x + (net.weight e + pot pots (net.tail e) - pot pots (net.head e)))
     forth q p h = inl (record { within = within; state = q; from = p ∙ sym h; to = refl; sum = omega (arith, forth_room q, ap (pot pots) (p ∙ sym h)) })
 
-    pub backs : get_or states e 0 ≡ 2 → net.head e ≡ v → u ≡ v → Leads net states pots e u (net.tail e) x (x + (pot pots (net.head e) - pot pots (net.tail e) - net.weight e))
+    pub backs : state_at states e ≡ Chosen → net.head e ≡ v → u ≡ v → Leads net states pots e u (net.tail e) x (x + (pot pots (net.head e) - pot pots (net.tail e) - net.weight e))
     backs q p h = inr (record { within = within; state = q; from = p ∙ sym h; to = refl; sum = omega (arith, back_room q, ap (pot pots) (p ∙ sym h)) })
 
-    pub forth_not : get_or states e 0 ≡ 1 → (net.tail e ≡ v → ⊥) → u ≡ v → (w y : ℕ) → Leads net states pots e u w x y → ⊥
+    pub forth_not : state_at states e ≡ Free → (net.tail e ≡ v → ⊥) → u ≡ v → (w y : ℕ) → Leads net states pots e u w x y → ⊥
     forth_not q d h w y (inl f) = d (f.from ∙ h)
-    forth_not q d h w y (inr b) = omega (arith, b.state)
+    forth_not q d h w y (inr b) = not_both (state_at states e) q b.state
 
-    pub back_not : get_or states e 0 ≡ 2 → (net.head e ≡ v → ⊥) → u ≡ v → (w y : ℕ) → Leads net states pots e u w x y → ⊥
-    back_not q d h w y (inl f) = omega (arith, f.state)
+    pub back_not : state_at states e ≡ Chosen → (net.head e ≡ v → ⊥) → u ≡ v → (w y : ℕ) → Leads net states pots e u w x y → ⊥
+    back_not q d h w y (inl f) = not_both (state_at states e) f.state q
     back_not q d h w y (inr b) = d (b.from ∙ h)
 
-    pub out_not : (get_or states e 0 ≡ 1 → ⊥) → (get_or states e 0 ≡ 2 → ⊥) → (w y : ℕ) → Leads net states pots e u w x y → ⊥
+    pub out_not : (state_at states e ≡ Free → ⊥) → (state_at states e ≡ Chosen → ⊥) → (w y : ℕ) → Leads net states pots e u w x y → ⊥
     out_not a b w y (inl f) = a f.state
     out_not a b w y (inr g) = b g.state
 
-  pub passes : (preds : List ℕ) (s : ℕ) (xs : List NodeKey) (len : ℕ) (done : ℕ → Bool) (e v x : ℕ) → Settling net states pots preds s xs len done → Stands xs len v x →
-      ((w y : ℕ) → Leads net states pots e (node_at xs len) w x y → ⊥) → Settling net states pots preds s xs len (more done e)
-  passes preds s xs len done e v x S h none = record {
-    heap = S.heap;
-    settled = skips preds s xs len done e x S.settled h.at (λ k y l d. absurd (none (node_at xs k) y d));
-  }
+  pub passes : (preds : List ℕ) (s : ℕ) (xs : List NodeKey) (len : ℕ) (done : ℕ → Bool) (e v x : ℕ) → Settled net states pots preds s xs len done → Stands xs len v x →
+      ((w y : ℕ) → Leads net states pots e (node_at xs len) w x y → ⊥) → Settled net states pots preds s xs len (more done e)
+  passes preds s xs len done e v x S h none =
+      skips preds s xs len done e x S h.at (λ k y l d. absurd (none (node_at xs k) y d))
 
   -- the distance of the entry at len, with room for one arc more
-  pub short : (preds : List ℕ) (s : ℕ) (xs : List NodeKey) (len : ℕ) (done : ℕ → Bool) (v x : ℕ) → Settling net states pots preds s xs len done → Fit net states pots (length xs) → s < length xs → len < length xs → Stands xs len v x →
+  pub short : (preds : List ℕ) (s : ℕ) (xs : List NodeKey) (len : ℕ) (done : ℕ → Bool) (v x : ℕ) → Settled net states pots preds s xs len done → Fit net states pots (length xs) → s < length xs → len < length xs → Stands xs len v x →
       x + pot pots v ≤ 1075838976
   short preds s xs len done v x S F ls l h =
-      omega (arith, S.settled.close len x (omega arith) l h.at, ap (pot pots) h.of, F.low s ls, F.small)
+      omega (arith, S.close len x (omega arith) l h.at, ap (pot pots) h.of, F.low s ls, F.small)
 
   pub kept_offered : (preds preds' : List ℕ) (xs ys : List NodeKey) (len w y e : ℕ) → Offered xs preds len w y e ys preds' → Kept xs ys len
   kept_offered preds preds' xs ys len w y e (inl p) = λ k l. ap (λ (q : List NodeKey). get_or q k blank) p.entries
@@ -410,18 +421,15 @@ module _ (net : Digraph) (states pots : List ℕ) where
         }
 
   -- ---- 8. the nearest entry leaves the heap
-  module _ (preds : List ℕ) (s : ℕ) (xs ys : List NodeKey) (len : ℕ) (r : NodeKey) (S : Settling net states pots preds s xs len (λ _. true)) (some : 0 < len)
-      (m : Moved len xs ys) (is : get_or ys (len - 1) blank ≡ r) (least : Least key_order r xs len) where
+  module _ (preds : List ℕ) (s : ℕ) (xs ys : List NodeKey) (len : ℕ) (r : NodeKey) (S : Settled net states pots preds s xs len (λ _. true)) (some : 0 < len)
+      (m : Moved len xs ys) (is : get_or ys (len - 1) blank ≡ r) (least : Least key_cmp r xs len) where
     first : (i : ℕ) → i < len → NoFarther r.reach (reach_at ys i)
-    first = below_moved (λ z. NoFarther r.reach z.reach) len xs ys S.settled.fits m (λ i l. no_farther r (get_or xs i blank) (least i blank l))
+    first = below_moved (λ z. NoFarther r.reach z.reach) len xs ys S.fits m (λ i l. no_farther r (get_or xs i blank) (least i blank l))
 
-    pub popped : (x : ℕ) → r.reach ≡ At x → IsHeap key_order ys (len - 1) → Settling net states pots preds s ys (len - 1) (λ _. false) × Stands ys (len - 1) r.node x
-    popped x at h =
+    pub popped : (x : ℕ) → r.reach ≡ At x → Settled net states pots preds s ys (len - 1) (λ _. false) × Stands ys (len - 1) r.node x
+    popped x at =
         let q : reach_at ys (len - 1) ≡ r.reach = ap (λ z. z.reach) is in (
-          record {
-            heap = h;
-            settled = finishes preds s ys len (len - 1) x (omega arith) (shuffled preds s xs ys len (λ _. true) S.settled m) (q ∙ at) (λ i l. subst (λ a. NoFarther a (reach_at ys i)) (sym q) (first i l));
-          },
+          finishes preds s ys len (len - 1) x (omega arith) (shuffled preds s xs ys len (λ _. true) S m) (q ∙ at) (λ i l. subst (λ a. NoFarther a (reach_at ys i)) (sym q) (first i l)),
           record { at = q ∙ at; of = ap (λ z. z.node) is },
         )
 
@@ -433,7 +441,7 @@ module _ (net : Digraph) (states pots : List ℕ) where
 
     pub unreached_rest : r.reach ≡ NotReached → (t : ℕ) → Missed xs len t → Settled net states pots preds s ys len (λ _. true) × ((i : ℕ) → i < len → NoFarther NotReached (reach_at ys i)) × Missed ys len t
     unreached_rest at t M = (
-      shuffled preds s xs ys len (λ _. true) S.settled m,
+      shuffled preds s xs ys len (λ _. true) S m,
       λ i l. subst (λ a. NoFarther a (reach_at ys i)) at (first i l),
       λ k l kn q. M k l (omega (arith, m.len)) (sym (ap (λ z. z.node) (rest_at len xs ys m k blank l)) ∙ q),
     )
@@ -466,8 +474,8 @@ module _ (net : Digraph) (states pots : List ℕ) where
         stuck NotReached NotReached n h (inl w) = w
         stuck NotReached NotReached n h (inr w) = let q = w.1 in let z : ◌≡◌ {A = ℕ} 0 1 = cc in omega arith
 
-    state_one : (e : ℕ) → e < net.size → usable states e ≡ true → in_f states e ≡ false → get_or states e 0 ≡ 1
-    state_one e l u f = omega (arith, F.kinds e l, ltb-true 0 (get_or states e 0) u, eqb-false (get_or states e 0) 2 f)
+    state_one : (e : ℕ) → e < net.size → usable states e ≡ true → in_f states e ≡ false → state_at states e ≡ Free
+    state_one e l u f = is_free (state_at states e) u f
 
     goes : (e u v y x : ℕ) → len ≤ place xs u → u < length xs → v < length xs → reach_at xs (place xs u) ≡ At x → Leads net states pots e u v x y → seen v ≡ true
     goes e u v y x l lu lv at ld =
@@ -495,76 +503,65 @@ module _ (net : Digraph) (states pots : List ℕ) where
         back = λ e l f h.
             let p = seen_is (net.head e) h in
             let g = S.finished (place xs (net.head e)) p (at_place (net.head e) (F.heads e l)).0 in
-            goes e (net.head e) (net.tail e) _ g.0 p (F.heads e l) (F.tails e l) g.1 (backs (length xs) F e (net.head e) (net.head e) g.0 l (eqb-true (get_or states e 0) 2 f) refl refl);
+            goes e (net.head e) (net.tail e) _ g.0 p (F.heads e l) (F.tails e l) g.1 (backs (length xs) F e (net.head e) (net.head e) g.0 l (is_used (state_at states e) f) refl refl);
       },
     )
 
   -- ---- 10. t is finished
-  pub arrived : (preds : List ℕ) (s t v : ℕ) (xs : List NodeKey) (len far : ℕ) → Settling net states pots preds s xs len (λ _. false) → Stands xs len v far → v ≡ t →
+  pub arrived : (preds : List ℕ) (s t v : ℕ) (xs : List NodeKey) (len far : ℕ) → Settled net states pots preds s xs len (λ _. false) → Stands xs len v far → v ≡ t →
       Fit net states pots (length xs) → s < length xs → len < length xs → Arrived net states pots preds s t xs len far
   arrived preds s t v xs len far S h q F ls l =
       let h' : Stands xs len t far = record { at = h.at; of = h.of ∙ q } in
       record {
         inside = l;
         stands = h';
-        settled = S.settled;
-        short = omega (arith, S.settled.close len far (omega arith) l h.at, ap (pot pots) h'.of, F.small);
+        settled = S;
+        short = omega (arith, S.close len far (omega arith) l h.at, ap (pot pots) h'.of, F.small);
       }
 
   -- ---- 11. all arcs of the entry at len
-  pub covers_none : (preds : List ℕ) (s : ℕ) (xs : List NodeKey) (len : ℕ) (order : List ℕ) (lo : ℕ) (done : ℕ → Bool) → Settling net states pots preds s xs len done → Covered net states pots preds s xs len order lo lo done
-  covers_none preds s xs len order lo done S = record { now_done = done; settling = S; keeps = λ i h. h; covers = λ p a b. absurd (omega arith) }
+  pub covers_none : (preds : List ℕ) (s : ℕ) (xs : List NodeKey) (len : ℕ) (arcs : List ℕ) (done : ℕ → Bool) → Settled net states pots preds s xs len done → Covered net states pots preds s xs len arcs 0 done
+  covers_none preds s xs len arcs done S = record { now_done = done; settled = S; keeps = λ i h. h; covers = λ p l. absurd (omega arith) }
 
-  pub covers_more : (preds preds' : List ℕ) (s : ℕ) (xs ys : List NodeKey) (len : ℕ) (order : List ℕ) (lo k : ℕ) (done : ℕ → Bool) (C : Covered net states pots preds s xs len order lo k done) →
-      (Settling net states pots preds s xs len C.now_done → Settling net states pots preds' s ys len (more C.now_done (get_or order k 0))) →
-      Covered net states pots preds' s ys len order lo (k + 1) done
-  covers_more preds preds' s xs ys len order lo k done C f = record {
-    now_done = more C.now_done (get_or order k 0);
-    settling = f C.settling;
+  pub covers_more : (preds preds' : List ℕ) (s : ℕ) (xs ys : List NodeKey) (len len' : ℕ) (arcs : List ℕ) (k : ℕ) (done : ℕ → Bool) (C : Covered net states pots preds s xs len arcs k done) →
+      (Settled net states pots preds s xs len C.now_done → Settled net states pots preds' s ys len' (more C.now_done (get_or arcs k 0))) →
+      Covered net states pots preds' s ys len' arcs (k + 1) done
+  covers_more preds preds' s xs ys len len' arcs k done C f = record {
+    now_done = more C.now_done (get_or arcs k 0);
+    settled = f C.settled;
     keeps = λ i h. kept i (C.keeps i h);
-    covers = λ p a b. elim (cases_eq p k) [
-      | inl q ↦ (ap (λ a. more C.now_done (get_or order k 0) (get_or order a 0)) q ∙ cond-true (eqb (get_or order k 0) (get_or order k 0)) true (C.now_done (get_or order k 0)) (eq-eqb (get_or order k 0) (get_or order k 0) refl))
-      | inr d ↦ kept (get_or order p 0) (C.covers p a (omega arith))
+    covers = λ p l. elim (cases_eq p k) [
+      | inl q ↦ (ap (λ a. more C.now_done (get_or arcs k 0) (get_or arcs a 0)) q ∙ cond-true (eqb (get_or arcs k 0) (get_or arcs k 0)) true (C.now_done (get_or arcs k 0)) (eq-eqb (get_or arcs k 0) (get_or arcs k 0) refl))
+      | inr d ↦ kept (get_or arcs p 0) (C.covers p (omega arith))
     ];
   }
     where
-      kept : (i : ℕ) → C.now_done i ≡ true → more C.now_done (get_or order k 0) i ≡ true
-      kept i h = go (eqb i (get_or order k 0)) h
+      kept : (i : ℕ) → C.now_done i ≡ true → more C.now_done (get_or arcs k 0) i ≡ true
+      kept i h = go (eqb i (get_or arcs k 0)) h
         where
           go : (b : Bool) → C.now_done i ≡ true → cond b true (C.now_done i) ≡ true
           go true h = refl
           go false h = h
 
-  pub spreads : (preds : List ℕ) (s : ℕ) (xs : List NodeKey) (len v x : ℕ) (done : ℕ → Bool) (first order first' order' : List ℕ) → Settling net states pots preds s xs len done → Stands xs len v x →
-      Indexed net.size net.tail first order (length xs) → Indexed net.size net.head first' order' (length xs) →
-      ((p : ℕ) → get_or first v 0 ≤ p → p < get_or first (v + 1) 0 → done (get_or order p 0) ≡ true) →
-      ((p : ℕ) → get_or first' v 0 ≤ p → p < get_or first' (v + 1) 0 → done (get_or order' p 0) ≡ true) →
-      Settling net states pots preds s xs len (λ _. true)
-  spreads preds s xs len v x done first order first' order' T h I J f g =
-      let S = T.settled in
-      record {
-        heap = T.heap;
-        settled = record {
-          fits = S.fits;
-          nodes = S.nodes;
-          once = S.once;
-          start = S.start;
-          order = S.order;
-          finished = S.finished;
-          relaxed = λ j e k x' y lj jn dn kn at ld. S.relaxed j e k x' y lj jn (λ q. all e k j x' y q ld) kn at ld;
-          waiting = S.waiting;
-          ranked = S.ranked;
-          near = S.near;
-          close = S.close;
-        };
-      }
+  pub spreads : (preds : List ℕ) (s : ℕ) (xs : List NodeKey) (len v x : ℕ) (done : ℕ → Bool) (leaving entering : List ℕ) → Settled net states pots preds s xs len done → Stands xs len v x →
+      ListsArcs net.tail net.size v leaving → ListsArcs net.head net.size v entering →
+      ((p : ℕ) → p < length leaving → done (get_or leaving p 0) ≡ true) →
+      ((p : ℕ) → p < length entering → done (get_or entering p 0) ≡ true) →
+      Settled net states pots preds s xs len (λ _. true)
+  spreads preds s xs len v x done leaving entering S h L E f g = record {
+    fits = S.fits;
+    nodes = S.nodes;
+    once = S.once;
+    start = S.start;
+    order = S.order;
+    finished = S.finished;
+    relaxed = λ j e k x' y lj jn dn kn at ld. S.relaxed j e k x' y lj jn (λ q. all e k j x' y q ld) kn at ld;
+    waiting = S.waiting;
+    ranked = S.ranked;
+    near = S.near;
+    close = S.close;
+  }
     where
       all : (e k j x' y : ℕ) → j ≡ len → Leads net states pots e (node_at xs j) (node_at xs k) x' y → done e ≡ true
-      all e k j x' y q (inl d) =
-          let l = I.listed e d.within in
-          let w : net.tail e ≡ v = d.from ∙ ap (node_at xs) q ∙ h.of in
-          ap done (sym l.3) ∙ f l.0 (omega (arith, l.1, ap (λ a. get_or first a 0) w)) (omega (arith, l.2, ap (λ a. get_or first (a + 1) 0) w))
-      all e k j x' y q (inr d) =
-          let l = J.listed e d.within in
-          let w : net.head e ≡ v = d.from ∙ ap (node_at xs) q ∙ h.of in
-          ap done (sym l.3) ∙ g l.0 (omega (arith, l.1, ap (λ a. get_or first' a 0) w)) (omega (arith, l.2, ap (λ a. get_or first' (a + 1) 0) w))
+      all e k j x' y q (inl d) = let l = L.complete e d.within (d.from ∙ ap (node_at xs) q ∙ h.of) in ap done (sym l.2) ∙ f l.0 l.1
+      all e k j x' y q (inr d) = let l = E.complete e d.within (d.from ∙ ap (node_at xs) q ∙ h.of) in ap done (sym l.2) ∙ g l.0 l.1

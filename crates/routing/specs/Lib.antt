@@ -6,3 +6,4 @@ pub mod Back
 pub mod Taking
 pub mod Found
 pub mod Answer
+pub mod Fronts

@@ -1,32 +1,16 @@
 // Takes paths out of the chosen arcs.
-ghost use Rattle.std.specs.Prelude.{◌≡◌, ℕ, ◌+◌, ◌<◌, ◌≤◌, List, length, ◌≢◌, slice_index};
-ghost use Rattle.graph.specs.Index.{Indexed};
+ghost use Rattle.std.specs.Prelude.{◌≡◌, ◌<◌, ◌≤◌, ◌≢◌, length};
 ghost use Rattle.paths.specs.Pairs.{cost as cost_of};
+ghost use Rattle.routing.specs.declared.state.State.TheVariants.{Chosen};
+ghost use Rattle.routing.specs.Entries.{state_at};
 ghost use Rattle.routing.specs.Found.{links_of};
 ghost use Rattle.routing.specs.Taking.{Leading, Rising, Taken};
 ghost use Rattle.routing.specs.Views.{net_of};
 
-use crate::dijkstra::{CHOSEN, FREE};
+use crate::flow::Flow;
 use crate::path::Path;
-use graph::View;
-
-// A chosen arc that leaves `node`. There is one: the chosen arcs lead from `node`, and it is not the target.
-fn leaving(graph: View, states: &[u32], node: u8, target: u8) -> usize
-    requires sorted { (n : ℕ) × (node < n) × Indexed (net_of graph).size (net_of graph).tail graph.leaving.first.now graph.leaving.order.now n }
-    requires leading { (length states.now ≡ (net_of graph).size) × (node ≢ target) × Leading (net_of graph) states.now node target }
-    ensures within { result < (net_of graph.entry).size }
-    ensures chosen { slice_index states.now result ≡ 2 }
-    ensures leaves { (net_of graph.entry).tail result ≡ node }
-{
-    let v = node as usize;
-    for p in graph.leaving.first[v] as usize..graph.leaving.first[v + 1] as usize {
-        let e = graph.leaving.order[p] as usize;
-        if states[e] == CHOSEN {
-            return e;
-        }
-    }
-    unreachable()
-}
+use crate::state::State;
+use graph::Graph;
 
 // A path and its cost.
 #[derive(Clone, Copy)]
@@ -35,32 +19,48 @@ pub(crate) struct Track {
     pub(crate) cost: u32,
 }
 
-// Follows chosen arcs from `source` to `target`, and frees them.
-pub(crate) fn take_path(graph: View, states: &mut [u32], source: u8, target: u8) -> Track
-    requires sizes { (length states.old ≡ (net_of graph).size) × ((net_of graph).size ≤ 128) }
-    requires rising { (pots : List ℕ) × (source < length pots) × (length pots ≤ 32) × Rising (net_of graph) states.old pots
-        × Indexed (net_of graph).size (net_of graph).tail graph.leaving.first.now graph.leaving.order.now (length pots) }
-    requires light { (e : ℕ) → e < (net_of graph).size → (net_of graph).weight e ≤ 65535 }
-    requires leading { Leading (net_of graph) states.old source target }
-    ensures taken { Taken (net_of graph.entry) states.old source (links_of result.path) target states.new }
-    ensures cost { result.cost ≡ cost_of (net_of graph.entry) (links_of result.path) }
-    ensures low { result.cost ≤ 2031585 }
+// A chosen arc that leaves `node`. There is one: the chosen arcs lead from `node`, and it is not the target.
+fn leaving(graph: &Graph, states: &[State], node: u8, target: u8) -> usize
+    requires stated { (net_of graph.now).size ≤ length states.now }
+    requires leading { (node ≢ target) × Leading (net_of graph.now) states.now node target }
+    ensures within { result < (net_of graph.now).size }
+    ensures chosen { state_at states.now result ≡ Chosen }
+    ensures leaves { (net_of graph.now).tail result ≡ node }
 {
-    let mut links = [0u8; 31];
-    let mut len = 0usize;
-    let mut cost = 0u32;
-    let mut v = source;
-    while v != target {
-        let e = leaving(graph, states, v, target);
-        let arc = graph.arcs[e];
-        states[e] = FREE;
-        links[len] = e as u8;
-        len += 1;
-        cost += arc.weight;
-        v = arc.head;
+    for e in graph.leaving(node) {
+        let e = usize::from(*e);
+        if let State::Chosen = states[e] {
+            return e;
+        }
     }
-    Track {
-        path: Path { links, len },
-        cost,
+    unreachable()
+}
+
+impl Flow<'_> {
+    // Follows chosen arcs from the source to the target, and frees them.
+    pub(crate) fn take_path(&mut self) -> Track
+        requires rising { Rising (net_of self.old.task.graph.now) self.old.states self.old.pots.now }
+        requires leading { Leading (net_of self.old.task.graph.now) self.old.states self.old.task.source self.old.task.target }
+        ensures same { self.new.task ≡ self.old.task }
+        ensures pots { self.new.pots.now ≡ self.old.pots.now }
+        ensures taken { Taken (net_of self.old.task.graph.now) self.old.states self.old.task.source (links_of result.path) self.old.task.target self.new.states }
+        ensures cost { result.cost ≡ cost_of (net_of self.old.task.graph.now) (links_of result.path) }
+        ensures low { result.cost ≤ 2031585 }
+    {
+        let graph = self.task.graph;
+        let arcs = graph.arcs();
+        let target = self.task.target;
+        let mut node = self.task.source;
+        let states = &mut self.states;
+        let mut path = Path::empty();
+        let mut cost = 0u32;
+        while node != target {
+            let e = leaving(graph, states, node, target);
+            states[e] = State::Free;
+            path.push(e as u8);
+            cost += arcs[e].weight;
+            node = arcs[e].head;
+        }
+        Track { path, cost }
     }
 }

@@ -1,25 +1,29 @@
 // Two rounds of the same step: a round takes one unit more from the source to the target along a shortest residual path,
 // and raises the potentials so that they certify the chosen arcs.
-ghost use Rattle.std.specs.Prelude.{◌≡◌, ℕ, ◌+◌, ◌-◌, ◌*◌, ◌<◌, ◌≤◌, length, MatchBool};
+ghost use Rattle.std.specs.Prelude.{◌≡◌, ℕ, ◌<◌, ◌≤◌, length, MatchOption};
+ghost use Rattle.graph.specs.Graphs.{node_count};
 ghost use Rattle.paths.specs.Flow.{Certified};
 ghost use Rattle.paths.specs.Pairs.{NoPair};
 ghost use Rattle.routing.specs.Back.{Chain, CutOff, Raised, Rounded, Walked, lift};
 ghost use Rattle.routing.specs.Entries.{entries_of, in_f, node_at, pot, usable};
-ghost use Rattle.routing.specs.Settle.{Fit};
+ghost use Rattle.routing.specs.Settle.{Arrived, Fit, Severed};
 ghost use Rattle.routing.specs.Taking.{Doubled, Ready};
-ghost use Rattle.routing.specs.Views.{SortedArcs, net_of};
+ghost use Rattle.routing.specs.Views.{net_of};
 
-use crate::dijkstra::{CHOSEN, FREE, explore};
+use crate::explore::{Arrival, explore};
+use crate::flow::Flow;
 use crate::key::{NodeKey, Reach};
-use graph::View;
+use crate::state::State;
 
-// By how much the potential of a node rises: its distance, and `far` at most.
-fn rise(reach: Reach, far: u32) -> u32
-    ensures { result ≡ lift reach far }
-{
-    match reach {
-        Reach::At(d) => d.min(far),
-        Reach::NotReached => far,
+impl Reach {
+    // By how much the potential of a node rises: its distance, and `far` at most.
+    fn rise(self, far: u32) -> u32
+        ensures { result ≡ lift self far }
+    {
+        match self {
+            Reach::At(d) => d.min(far),
+            Reach::NotReached => far,
+        }
     }
 }
 
@@ -30,106 +34,72 @@ fn raise(entries: &[NodeKey], pots: &mut [u32], far: u32)
     requires low { ((v : ℕ) → v < length pots.old → pot pots.old v ≤ 1073741824) × (far ≤ 1075838976) }
     ensures { Raised entries.now pots.old pots.new far }
 {
-    for k in 0..entries.len() {
-        let entry = entries[k];
-        let more = rise(entry.reach, far);
-        pots[entry.node as usize] += more;
+    for entry in entries {
+        pots[entry.node as usize] += entry.reach.rise(far);
     }
 }
 
-// Flips the arcs by which `target` was reached, from `target` back to `source`.
-fn walk_back(
-    graph: View,
-    states: &mut [u32],
-    pots: &[u32],
-    preds: &[u32],
-    entries: &[NodeKey],
-    rest: usize,
-    source: u8,
-    target: u8,
-)
-    requires chain { Chain (net_of graph) states.old pots.now preds.now entries.now rest source }
-    requires certified { Certified (net_of graph) (usable states.old) (in_f states.old) (pot pots.now) }
-    requires sizes { (length states.old ≡ (net_of graph).size) × (length preds.now ≡ length entries.now) × (rest < length entries.now) × (node_at entries.now rest ≡ target) }
-    ensures { Walked (net_of graph.entry) states.old pots.now states.new source target }
-{
-    let mut v = target;
-    while v != source {
-        let e = preds[v as usize] as usize;
-        let arc = graph.arcs[e];
-        if states[e] == CHOSEN {
-            states[e] = FREE;
-            v = arc.head;
-        } else {
-            states[e] = CHOSEN;
-            v = arc.tail;
+impl Flow<'_> {
+    // Finishes the nearest nodes over the residual arcs, until the target is finished or no other node is reached.
+    fn explore(&self, preds: &mut [u32], entries: &mut [NodeKey]) -> Option<Arrival>
+        requires fit { Fit (net_of self.now.task.graph.now) self.now.states self.now.pots.now (node_count self.now.task.graph.now) }
+        requires sizes { (length preds.old ≡ node_count self.now.task.graph.now) × (length entries.old ≡ node_count self.now.task.graph.now) }
+        ensures { MatchOption result (Severed (net_of self.now.task.graph.now) self.now.states self.now.task.source self.now.task.target)
+            (λ a. Arrived (net_of self.now.task.graph.now) self.now.states self.now.pots.now preds.new self.now.task.source self.now.task.target entries.new a.rest a.far) }
+    {
+        explore(self.task, &self.states, self.pots, preds, entries)
+    }
+
+    // Flips the arcs by which the target was reached, from the target back to the source. It comes to an end since each node
+    // was reached from one that was finished before it: the entries say in which order, with the target's own at `rest`.
+    fn walk_back(&mut self, preds: &[u32], entries: &[NodeKey], rest: usize)
+        requires chain { Chain (net_of self.old.task.graph.now) self.old.states self.old.pots.now preds.now entries.now rest self.old.task.source }
+        requires target { (rest < length entries.now) × (node_at entries.now rest ≡ self.old.task.target) × (length preds.now ≡ length entries.now) }
+        requires certified { Certified (net_of self.old.task.graph.now) (usable self.old.states) (in_f self.old.states) (pot self.old.pots.now) }
+        ensures same { self.new.task ≡ self.old.task }
+        ensures pots { self.new.pots.now ≡ self.old.pots.now }
+        ensures walked { Walked (net_of self.old.task.graph.now) self.old.states self.old.pots.now self.new.states self.old.task.source self.old.task.target }
+    {
+        let arcs = self.task.graph.arcs();
+        let source = self.task.source;
+        let mut node = self.task.target;
+        let states = &mut self.states;
+        while node != source {
+            let e = preds[node as usize] as usize;
+            if let State::Chosen = states[e] {
+                states[e] = State::Free;
+                node = arcs[e].head;
+            } else {
+                states[e] = State::Chosen;
+                node = arcs[e].tail;
+            }
         }
     }
-}
 
-// One round: takes one unit more from `source` to `target`, or says that there is no way for it.
-fn round(
-    graph: View,
-    states: &mut [u32],
-    pots: &mut [u32],
-    preds: &mut [u32],
-    entries: &mut [NodeKey],
-    source: u8,
-    target: u8,
-) -> bool
-    requires fit { Fit (net_of graph) states.old pots.old (length entries.old) }
-    requires sorted { SortedArcs graph (length entries.old) }
-    requires sizes { (length preds.old ≡ length entries.old) × (source < length entries.old) × (target < length entries.old) }
-    ensures { MatchBool result (Rounded (net_of graph.entry) states.old pots.old states.new pots.new (length entries.old) source target)
-        (CutOff (net_of graph.entry) states.old pots.old states.new pots.new source target) }
-{
-    match explore(graph, states, pots, preds, entries, source, target) {
-        None => false,
-        Some(arrival) => {
-            raise(entries, pots, arrival.far);
-            walk_back(
-                graph,
-                states,
-                pots,
-                preds,
-                entries,
-                arrival.rest,
-                source,
-                target,
-            );
-            true
-        }
+    // One round: takes one unit more from the source to the target. `None` if there is no way for it.
+    fn round(&mut self, preds: &mut [u32], entries: &mut [NodeKey]) -> Option<()>
+        requires fit { Fit (net_of self.old.task.graph.now) self.old.states self.old.pots.now (node_count self.old.task.graph.now) }
+        requires sizes { (length preds.old ≡ node_count self.old.task.graph.now) × (length entries.old ≡ node_count self.old.task.graph.now) }
+        ensures same { self.new.task ≡ self.old.task }
+        ensures round { MatchOption result (CutOff (net_of self.old.task.graph.now) self.old.states self.old.pots.now self.new.states self.new.pots.now self.old.task.source self.old.task.target)
+            (λ _. Rounded (net_of self.old.task.graph.now) self.old.states self.old.pots.now self.new.states self.new.pots.now (node_count self.old.task.graph.now) self.old.task.source self.old.task.target) }
+    {
+        let arrival = self.explore(preds, entries)?;
+        raise(entries, self.pots, arrival.far);
+        self.walk_back(preds, entries, arrival.rest);
+        Some(())
     }
-}
 
-// Sets each potential to 0.
-fn level(pots: &mut [u32])
-    ensures { (v : ℕ) → pot pots.new v ≡ 0 }
-{
-    for p in pots.iter_mut() {
-        *p = 0;
+    // Chooses arcs that take two units from the source to the target, as cheap as can be. `None` if there is no pair.
+    pub(crate) fn choose(&mut self, preds: &mut [u32], entries: &mut [NodeKey]) -> Option<()>
+        requires ready { Ready (net_of self.old.task.graph.now) self.old.states (node_count self.old.task.graph.now) }
+        requires sizes { (length preds.old ≡ node_count self.old.task.graph.now) × (length entries.old ≡ node_count self.old.task.graph.now) }
+        ensures same { self.new.task ≡ self.old.task }
+        ensures pair { MatchOption result (NoPair (net_of self.old.task.graph.now) (usable self.old.states) self.old.task.source self.old.task.target)
+            (λ _. Doubled (net_of self.old.task.graph.now) self.old.states self.new.states self.new.pots.now self.old.task.source self.old.task.target) }
+    {
+        self.pots.fill(0);
+        self.round(preds, entries)?;
+        self.round(preds, entries)
     }
-}
-
-// Chooses arcs that take two units from `source` to `target`, as cheap as can be, or says that there is no pair.
-pub(crate) fn choose(
-    graph: View,
-    states: &mut [u32],
-    pots: &mut [u32],
-    preds: &mut [u32],
-    entries: &mut [NodeKey],
-    source: u8,
-    target: u8,
-) -> bool
-    requires ready { Ready (net_of graph) states.old (length entries.old) }
-    requires sorted { SortedArcs graph (length entries.old) }
-    requires sizes { (length preds.old ≡ length entries.old) × (length pots.old ≡ length entries.old) × (source < length entries.old) × (target < length entries.old) }
-    ensures { MatchBool result (Doubled (net_of graph.entry) states.old states.new pots.new source target)
-        (NoPair (net_of graph.entry) (usable states.old) source target) }
-{
-    level(pots);
-    if !round(graph, states, pots, preds, entries, source, target) {
-        return false;
-    }
-    round(graph, states, pots, preds, entries, source, target)
 }

@@ -1,47 +1,48 @@
 // The search for the cheapest pair of paths with no common link.
-ghost use Rattle.std.specs.Prelude.{◌≡◌, ◌+◌, ◌*◌, ◌<◌, ◌≤◌, length, replicate, is_ok, if◌then◌else◌, MatchOption, ◌≢◌};
+ghost use Rattle.std.specs.Prelude.{◌≡◌, ◌+◌, ◌*◌, ◌<◌, ◌≤◌, length, replicate, is_ok, if◌then◌else◌, MatchOption, MatchResult, None, Some, ◌≢◌};
+ghost use Rattle.graph.specs.Graphs.{arc_list, node_count};
 ghost use Rattle.paths.specs.Pairs.{NoPair};
 ghost use Rattle.routing.specs.Answer.{Answers, no_entry, refusal};
 ghost use Rattle.routing.specs.Found.{Best, allowed, paired, precedes};
-ghost use Rattle.graph.specs.Arcs.{Within};
+ghost use Rattle.routing.specs.declared.state.State.TheVariants.{Free, LeftOut};
 ghost use Rattle.routing.specs.Taking.{Marked};
-ghost use Rattle.routing.specs.Views.{SortedArcs, net_of};
+ghost use Rattle.routing.specs.Views.{net_of};
 
-use crate::dijkstra::FREE;
-use crate::extract::{Track, take_path};
-use crate::key::{NodeKey, Reach};
+use crate::extract::Track;
+use crate::flow::{Flow, MOST_ARCS};
+use crate::key::NodeKey;
 use crate::path::Pair;
-use crate::rounds::choose;
-use graph::View;
+use crate::state::State;
+use crate::task::Task;
+use graph::Graph;
 use network::Network;
+use std::array;
 
-// The state that the arc `e` begins with.
-fn first_state(usable: &[bool], e: usize) -> u32
-    ensures { result ≡ (if allowed usable.now e then 1 else 0) }
+// The state that the arc `e` begins with: it is free if it is usable.
+fn first_state(usable: &[bool], e: usize) -> State
+    ensures { result ≡ (if allowed usable.now e then Free else LeftOut) }
 {
-    if e >= usable.len() {
-        return 0;
-    }
-    if usable[e] { FREE } else { 0 }
-}
-
-// Marks each arc as free or left out.
-fn mark(states: &mut [u32], usable: &[bool])
-    ensures { Marked usable.now states.new }
-{
-    for e in 0..states.len() {
-        states[e] = first_state(usable, e);
+    match usable.get(e) {
+        Some(true) => State::Free,
+        _ => State::LeftOut,
     }
 }
 
-// Whether `a` is the working path beside `b`: it is cheaper, or at equal cost its first link has the lower number.
-fn goes_first(a: Track, b: Track) -> bool
-    ensures { result ≡ precedes a b }
+// The states that all arcs begin with.
+fn first_states(usable: &[bool]) -> [State; MOST_ARCS]
+    ensures long { length result ≡ 128 }
+    ensures marked { Marked usable.now result }
 {
-    if a.cost == b.cost {
-        return a.path.links[0] < b.path.links[0];
+    array::from_fn(|e| first_state(usable, e))
+}
+
+impl Track {
+    // Whether this is the working path beside `other`: it is cheaper, or at equal cost its first link has the lower number.
+    fn goes_before(&self, other: &Track) -> bool
+        ensures { result ≡ precedes self.now other.now }
+    {
+        (self.cost, self.path.first()) < (other.cost, other.path.first())
     }
-    a.cost < b.cost
 }
 
 // The two paths as working and protecting path.
@@ -50,7 +51,7 @@ fn rank(one: Track, two: Track) -> Pair
     ensures { result ≡ (if precedes two one then paired two one else paired one two) }
 {
     let cost = one.cost + two.cost;
-    if goes_first(two, one) {
+    if two.goes_before(&one) {
         Pair {
             cost,
             working: two.path,
@@ -65,37 +66,31 @@ fn rank(one: Track, two: Track) -> Pair
     }
 }
 
-// The cheapest pair over the usable arcs, if there is a pair. Of the words it uses one for each arc and two for each node.
-fn search(
-    graph: View,
+// The cheapest pair over the usable arcs, if there is a pair. Of the words it uses two for each node.
+fn best_pair(
+    task: Task,
     usable: &[bool],
-    source: u8,
-    target: u8,
     words: &mut [u32],
     entries: &mut [NodeKey],
 ) -> Option<Pair>
-    requires within { Within (length entries.old) graph.arcs.now }
-    requires sorted { SortedArcs graph (length entries.old) }
-    requires room { 2 * length entries.old + (net_of graph).size ≤ length words.old }
-    requires ends { (source < length entries.old) × (target < length entries.old) × (source ≢ target) }
-    ensures { MatchOption result (NoPair (net_of graph.entry) (allowed usable.now) source target)
-        (λ p. Best (net_of graph.entry) (allowed usable.now) source target p) }
+    requires words { 2 * node_count task.graph.now ≤ length words.old }
+    requires entries { length entries.old ≡ node_count task.graph.now }
+    ensures { MatchOption result (NoPair (net_of task.entry.graph.now) (allowed usable.now) task.entry.source task.entry.target)
+        (λ p. Best (net_of task.entry.graph.now) (allowed usable.now) task.entry.source task.entry.target p) }
 {
     let nodes = entries.len();
-    let (states, rest) = words.split_at_mut(graph.arcs.len());
-    let (pots, rest) = rest.split_at_mut(nodes);
+    let (pots, rest) = words.split_at_mut(nodes);
     let (preds, _) = rest.split_at_mut(nodes);
-    mark(states, usable);
-    if !choose(graph, states, pots, preds, entries, source, target) {
-        return None;
-    }
-    let one = take_path(graph, states, source, target);
-    let two = take_path(graph, states, source, target);
+    let states = first_states(usable);
+    let mut flow = Flow { task, states, pots };
+    flow.choose(preds, entries)?;
+    let one = flow.take_path();
+    let two = flow.take_path();
     Some(rank(one, two))
 }
 
 // Why a search is refused.
-#[derive(Clone, Copy)]
+#[derive(Clone, Copy, Debug, PartialEq, Eq)]
 pub enum SearchFault {
     // The source or the target is no node of the network.
     NoSuchNode,
@@ -105,28 +100,29 @@ pub enum SearchFault {
     ShortBuffer,
 }
 
-// Why there is no search, if so.
-fn refused(
-    nodes: usize,
-    links: usize,
+// Whether there can be a search with so many words and entries.
+fn check(
+    graph: &Graph,
     source: u8,
     target: u8,
     words: usize,
     entries: usize,
-) -> Option<SearchFault>
-    requires { (nodes ≤ 32) × (links ≤ 128) }
-    ensures { result ≡ refusal nodes links source target words entries }
+) -> Result<(), SearchFault>
+    ensures { MatchResult result (λ _. refusal (node_count graph.now) (length (arc_list graph.now)) source target words entries ≡ None)
+        (λ f. refusal (node_count graph.now) (length (arc_list graph.now)) source target words entries ≡ Some f) }
 {
-    if source as usize >= nodes || target as usize >= nodes {
-        return Some(SearchFault::NoSuchNode);
+    if source >= graph.nodes() || target >= graph.nodes() {
+        return Err(SearchFault::NoSuchNode);
     }
     if source == target {
-        return Some(SearchFault::SameNode);
+        return Err(SearchFault::SameNode);
     }
+    let nodes = graph.nodes() as usize;
+    let links = graph.arcs().len();
     if words < 6 * nodes + 2 * links || entries < nodes {
-        return Some(SearchFault::ShortBuffer);
+        return Err(SearchFault::ShortBuffer);
     }
-    None
+    Ok(())
 }
 
 // The cheapest pair of paths from `source` to `target` with no common link, over the links that are marked usable (a link
@@ -144,23 +140,16 @@ pub fn find_pair(
     ensures words { words.new ≡ (if is_ok result then replicate (length words.old) 0 else words.old) }
     ensures entries { entries.new ≡ (if is_ok result then replicate (length entries.old) no_entry else entries.old) }
 {
-    let graph = network.graph().view();
-    let nodes = graph.nodes as usize;
-    if let Some(fault) = refused(
-        nodes,
-        graph.arcs.len(),
+    let graph = network.graph();
+    check(graph, source, target, words.len(), entries.len())?;
+    let nodes = graph.nodes() as usize;
+    let task = Task {
+        graph,
         source,
         target,
-        words.len(),
-        entries.len(),
-    ) {
-        return Err(fault);
-    }
-    let found = search(graph, usable, source, target, words, &mut entries[0..nodes]);
+    };
+    let found = best_pair(task, usable, words, &mut entries[0..nodes]);
     words.fill(0);
-    entries.fill(NodeKey {
-        reach: Reach::NotReached,
-        node: 0,
-    });
+    entries.fill(NodeKey::default());
     Ok(found)
 }

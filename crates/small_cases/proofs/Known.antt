@@ -1,5 +1,5 @@
 -- The pairs of the small networks.
-use Rattle.std.proofs.Common.{◌≡◌, ℕ, zero, suc, ◌+◌, ◌<◌, ◌≤◌, Bool, true, false, List, [], ◌∷◌, sym, refl, ap, ◌∙◌, subst, arith}
+use Rattle.std.proofs.Common.{◌≡◌, ℕ, zero, suc, ◌+◌, ◌<◌, ◌≤◌, Bool, true, false, List, [], ◌∷◌, refl, ap, ◌∙◌, arith, below_more, below_none, rules}
 use Rattle.std.specs.List.{AllByRecursion}
 use Rattle.paths.specs.Pairs.{Absent, CheapestCosts, Digraph, NoPair, Pair, Walk, cost, every}
 use Rattle.paths.specs.Flow.{Carries, Certified, over}
@@ -15,9 +15,6 @@ certified_costs : (net : Digraph) (s t : ℕ) (p q : List ℕ) (F : ℕ → Bool
 certified_costs net s t p q F π P C K most =
     cheapest_costs net every s t p q (record { pair = P; least = λ p' q' P'. omega (arith, optimal net every F π s t C K p' q' P') })
 
-differ : true ≡ false → ⊥
-differ z = let z : ◌≡◌ {A = ℕ} 0 1 = cc in omega arith
-
 -- ---- the diamond: all links but 1→2 carry two
 abbrev sides : ℕ → Bool
 sides zero = true
@@ -30,35 +27,15 @@ height (suc zero) = 3
 height (suc (suc zero)) = 4
 height (suc (suc (suc v))) = 7
 
-five : (P : ℕ → Type 0) → P 0 → P 1 → P 2 → P 3 → P 4 → (e : ℕ) → e < 5 → P e
-five P a b c d f zero l = a
-five P a b c d f (suc zero) l = b
-five P a b c d f (suc (suc zero)) l = c
-five P a b c d f (suc (suc (suc zero))) l = d
-five P a b c d f (suc (suc (suc (suc zero)))) l = f
-five P a b c d f (suc (suc (suc (suc (suc e))))) l = absurd (omega arith)
-
-diamond_pair : Pair (link_graph diamond) every 0 3 (0 ∷ 4 ∷ []) (3 ∷ 2 ∷ [])
-diamond_pair = record {
-  one = record {
-    walk = (omega arith, refl, (omega arith, refl, refl));
-    allowed = (refl, (refl, tt));
-    simple = ((λ z. omega arith, (λ z. omega arith, tt)), ((λ z. omega arith, tt), (tt, tt)));
-  };
-  two = record {
-    walk = (omega arith, refl, (omega arith, refl, refl));
-    allowed = (refl, (refl, tt));
-    simple = ((λ z. omega arith, (λ z. omega arith, tt)), ((λ z. omega arith, tt), (tt, tt)));
-  };
-  apart = ((λ z. omega arith, (λ z. omega arith, tt)), ((λ z. omega arith, (λ z. omega arith, tt)), tt));
-}
+below_5 : (P : ℕ → Type 0) → P 0 → P 1 → P 2 → P 3 → P 4 → (e : ℕ) → e < 5 → P e
+below_5 P a b c d f = below_more P 4 (below_more P 3 (below_more P 2 (below_more P 1 (below_more P 0 (below_none P) a) b) c) d) f
 
 pub diamond_10 : CheapestCosts (link_graph diamond) every 0 3 10
-diamond_10 = certified_costs (link_graph diamond) 0 3 (0 ∷ 4 ∷ []) (3 ∷ 2 ∷ []) sides height diamond_pair
+diamond_10 = certified_costs (link_graph diamond) 0 3 (0 ∷ 4 ∷ []) (3 ∷ 2 ∷ []) sides height (search rules)
     (record {
       within = λ e l q. refl;
-      used = five _ (λ z. omega arith) (λ z. absurd (differ (sym z))) (λ z. omega arith) (λ z. omega arith) (λ z. omega arith);
-      free = five _ (λ y z. absurd (differ z)) (λ y z. omega arith) (λ y z. absurd (differ z)) (λ y z. absurd (differ z)) (λ y z. absurd (differ z));
+      used = below_5 _ (search rules) (search rules) (search rules) (search rules) (search rules);
+      free = below_5 _ (λ y z. cc) (λ y z. omega arith) (λ y z. cc) (λ y z. cc) (λ y z. cc);
     })
     (λ π. omega arith)
     (omega arith)
@@ -71,30 +48,18 @@ one_link net all (e ∷ []) w = (e, w.0, refl)
 one_link net all (e ∷ f ∷ ls) w = absurd (omega (arith, (all e w.0).1, (all f w.2.0).0, w.2.1))
 
 shared : (p q : List ℕ) (e : ℕ) → p ≡ e ∷ [] → q ≡ e ∷ [] → AllByRecursion (λ x. Absent x q) p → ⊥
-shared p q e i j a =
-    let b : AllByRecursion (λ x. Absent x q) (e ∷ []) = subst (λ (xs : List ℕ). AllByRecursion (λ x. Absent x q) xs) i a in
-    let c : Absent e (e ∷ []) = subst (λ (xs : List ℕ). Absent e xs) j b.0 in
-    c.0 refl
+shared p q e i j a = let b = simp (i, j) at a in b.0.0 refl
 
-two : (P : ℕ → Type 0) → P 0 → P 1 → (e : ℕ) → e < 2 → P e
-two P a b zero l = a
-two P a b (suc zero) l = b
-two P a b (suc (suc e)) l = absurd (omega arith)
+below_2 : (P : ℕ → Type 0) → P 0 → P 1 → (e : ℕ) → e < 2 → P e
+below_2 P a b = below_more P 1 (below_more P 0 (below_none P) a) b
 
 abbrev rise : ℕ → ℕ
 rise zero = 0
 rise (suc v) = 2
 
-parallel_pair : Pair (link_graph parallel) every 0 1 (0 ∷ []) (1 ∷ [])
-parallel_pair = record {
-  one = record { walk = (omega arith, refl, refl); allowed = (refl, tt); simple = ((λ z. omega arith, tt), (tt, tt)) };
-  two = record { walk = (omega arith, refl, refl); allowed = (refl, tt); simple = ((λ z. omega arith, tt), (tt, tt)) };
-  apart = ((λ z. omega arith, tt), tt);
-}
-
 pub parallel_3 : CheapestCosts (link_graph parallel) every 0 1 3
-parallel_3 = certified_costs (link_graph parallel) 0 1 (0 ∷ []) (1 ∷ []) every rise parallel_pair
-    (record { within = λ e l q. refl; used = two _ (λ z. omega arith) (λ z. omega arith); free = λ e l y z. absurd (differ z) })
+parallel_3 = certified_costs (link_graph parallel) 0 1 (0 ∷ []) (1 ∷ []) every rise (search rules)
+    (record { within = λ e l q. refl; used = below_2 _ (λ z. omega arith) (λ z. omega arith); free = λ e l y z. cc })
     (λ π. omega arith)
     (omega arith)
 
@@ -108,20 +73,16 @@ works_on_0 (suc (suc e)) f p q l m i j a c = absurd (omega arith)
 
 pub parallel_0 : WorkingIs parallel 0 1 (0 ∷ [])
 parallel_0 p q C W =
-    let P = one_link (link_graph parallel) (two _ (refl, refl) (refl, refl)) p C.pair.one.walk in
-    let Q = one_link (link_graph parallel) (two _ (refl, refl) (refl, refl)) q C.pair.two.walk in
+    let P = one_link (link_graph parallel) (below_2 _ (refl, refl) (refl, refl)) p C.pair.one.walk in
+    let Q = one_link (link_graph parallel) (below_2 _ (refl, refl) (refl, refl)) q C.pair.two.walk in
     works_on_0 P.0 Q.0 p q P.1 Q.1 P.2 Q.2 C.pair.apart W.cheaper
 
 pub single_none : NoPair (link_graph single) every 0 1
 single_none p q P =
-    let only : (e : ℕ) → e < 1 → ((link_graph single).tail e ≡ 0) × ((link_graph single).head e ≡ 1) = one _ (refl, refl) in
+    let only : (e : ℕ) → e < 1 → ((link_graph single).tail e ≡ 0) × ((link_graph single).head e ≡ 1) = below_more _ 0 (below_none _) (refl, refl) in
     let A = one_link (link_graph single) only p P.one.walk in
     let B = one_link (link_graph single) only q P.two.walk in
     shared p q 0 (A.2 ∙ ap (λ e. e ∷ []) (zero_only A.0 A.1)) (B.2 ∙ ap (λ e. e ∷ []) (zero_only B.0 B.1)) P.apart
   where
-    one : (P : ℕ → Type 0) → P 0 → (e : ℕ) → e < 1 → P e
-    one P a zero l = a
-    one P a (suc e) l = absurd (omega arith)
-
     zero_only : (e : ℕ) → e < 1 → e ≡ 0
     zero_only e l = omega arith

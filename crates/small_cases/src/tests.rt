@@ -33,9 +33,9 @@ fn find(
         reach: Reach::NotReached,
         node: 0,
     }; 32];
-    let Ok(found) = find_pair(&network, usable, 0, target, &mut words, &mut entries) else {
-        return Err(Fail::new("refused"));
-    };
+    let found = find_pair(&network, usable, 0, target, &mut words, &mut entries).map_err(
+        |_| "refused",
+    )?;
     assert!(rt; words.as_slice() == [0; 448].as_slice());
     Ok(found)
 }
@@ -49,10 +49,7 @@ fn finds(
     working: &[u8],
     protecting: &[u8],
 ) -> Result<(), Fail> {
-    let found = find(rt, heap, network, &[true; 128], target)?;
-    let Some(pair) = found else {
-        return Err(Fail::new("no pair"));
-    };
+    let pair = find(rt, heap, network, &[true; 128], target)?.ok_or("no pair")?;
     assert_eq!(rt; pair.cost, cost);
     assert!(rt; pair.working.links() == working);
     assert!(rt; pair.protecting.links() == protecting);

@@ -1,5 +1,5 @@
 -- On a trap no cheapest pair has the path that is cheapest.
-use Rattle.std.proofs.Common.{◌≡◌, ℕ, ◌<◌, ◌≤◌, Bool, true, ◌⊎◌, List, [], ◌∷◌, length, sym, refl, ap, ◌∙◌, subst, inl, inr, ⊎_elim, arith}
+use Rattle.std.proofs.Common.{◌≡◌, ℕ, ◌<◌, ◌≤◌, Bool, true, ◌⊎◌, List, [], ◌∷◌, length, sym, refl, ap, ◌∙◌, subst, inl, inr, arith}
 use Rattle.std.specs.List.{AllByRecursion}
 use Rattle.std.proofs.lemmas.Bool.{cases_eq}
 use Rattle.network.specs.declared.link.Link.{Link}
@@ -14,16 +14,16 @@ module _ (links : List Link) (T : Trapped links) (long : 5 ≤ length links) whe
 
   -- without the links 0, 1 and 2 there is no way to node 3 but by a dear link
   dear_walk : (u : ℕ) → (u ≡ 0) ⊎ (u ≡ 2) → (ls : List ℕ) → Absent 0 ls → Absent 1 ls → Absent 2 ls → Walk net u ls 3 → 41 ≤ cost net ls
-  dear_walk u at [] a b c w = ⊎_elim (λ z. omega (arith, w)) (λ z. omega (arith, w)) at
-  dear_walk u at (e ∷ ls) a b c w =
-      ⊎_elim
-      (λ three. let h : net.head e ≡ 2 = ap net.head three ∙ T.trap.past_one.1 in
-      omega (arith, dear_walk (net.head e) (inr h) ls a.1 b.1 c.1 w.2))
-      (λ not3. ⊎_elim
-      (λ four. let h : u ≡ 1 = sym w.1 ∙ ap net.tail four ∙ T.trap.past_two.0 in absurd (⊎_elim (λ z. omega (arith, h, z)) (λ z. omega (arith, h, z)) at))
-      (λ not4. let n0 : 0 ≡ e → ⊥ = a.0 in let n1 : 1 ≡ e → ⊥ = b.0 in let n2 : 2 ≡ e → ⊥ = c.0 in omega (arith, T.dear e (omega arith) w.0))
-      (cases_eq e 4))
-      (cases_eq e 3)
+  dear_walk u at [] a b c w = elim at [ inl z ↦ omega (arith, w) | inr z ↦ omega (arith, w) ]
+  dear_walk u at (e ∷ ls) a b c w = elim (cases_eq e 3) [
+    | inl three ↦
+        let h : net.head e ≡ 2 = ap net.head three ∙ T.trap.past_one.1 in
+        omega (arith, dear_walk (net.head e) (inr h) ls a.1 b.1 c.1 w.2)
+    | inr not3 ↦ elim (cases_eq e 4) [
+      | inl four ↦ let h : u ≡ 1 = sym w.1 ∙ ap net.tail four ∙ T.trap.past_two.0 in absurd (elim at [ inl z ↦ omega (arith, h, z) | inr z ↦ omega (arith, h, z) ])
+      | inr not4 ↦ let n0 : 0 ≡ e → ⊥ = a.0 in let n1 : 1 ≡ e → ⊥ = b.0 in let n2 : 2 ≡ e → ⊥ = c.0 in omega (arith, T.dear e (omega arith) w.0)
+    ]
+  ]
 
   module _ (usable : ℕ → Bool) (open_all : (e : ℕ) → e < 5 → usable e ≡ true) where
     -- the two paths that share the links of the cheapest path
@@ -52,52 +52,54 @@ module _ (links : List Link) (T : Trapped links) (long : 5 ≤ length links) whe
           T.trap.cheap,
         )
 
-  -- a link that is none of the five is dear
-  dear_link : (e : ℕ) → e < length links → (e ≡ 0 → ⊥) → (e ≡ 1 → ⊥) → (e ≡ 2 → ⊥) → (e ≡ 3 → ⊥) → (e ≡ 4 → ⊥) → 41 ≤ net.weight e
-  dear_link e l a b c d f = omega (arith, T.dear e (omega arith) l)
-
   -- which of the five a link can be that starts at a node
   starts : (e u : ℕ) → e < length links → net.tail e ≡ u →
       ((e ≡ 0) × (u ≡ 0)) ⊎ (((e ≡ 1) × (u ≡ 1)) ⊎ (((e ≡ 2) × (u ≡ 2)) ⊎ (((e ≡ 3) × (u ≡ 0)) ⊎ (((e ≡ 4) × (u ≡ 1)) ⊎ (41 ≤ net.weight e)))))
   starts e u l t =
-      ⊎_elim (λ h. inl (h, sym t ∙ ap net.tail h ∙ T.trap.first.0))
-      (λ a. ⊎_elim (λ h. inr (inl (h, sym t ∙ ap net.tail h ∙ T.trap.second.0)))
-      (λ b. ⊎_elim (λ h. inr (inr (inl (h, sym t ∙ ap net.tail h ∙ T.trap.third.0))))
-      (λ c. ⊎_elim (λ h. inr (inr (inr (inl (h, sym t ∙ ap net.tail h ∙ T.trap.past_one.0)))))
-      (λ d. ⊎_elim (λ h. inr (inr (inr (inr (inl (h, sym t ∙ ap net.tail h ∙ T.trap.past_two.0))))))
-      (λ f. inr (inr (inr (inr (inr (dear_link e l a b c d f)))))) (cases_eq e 4)) (cases_eq e 3)) (cases_eq e 2)) (cases_eq e 1)) (cases_eq e 0)
+      let dear = T.dear e in
+      let at_zero = T.trap.first.0 in
+      let at_one = T.trap.second.0 in
+      let at_two = T.trap.third.0 in
+      let at_three = T.trap.past_one.0 in
+      let at_four = T.trap.past_two.0 in
+      grind (arith, cases_eq e 0, cases_eq e 1, cases_eq e 2, cases_eq e 3, cases_eq e 4)
+
+  only_three : (e : ℕ) → e < length links → net.tail e ≡ 3 → 41 ≤ net.weight e
+  only_three e l t = let s = starts e 3 l t in grind arith
+
+  only_two : (e : ℕ) → e < length links → net.tail e ≡ 2 → (e ≡ 2) ⊎ (41 ≤ net.weight e)
+  only_two e l t = let s = starts e 2 l t in grind arith
+
+  only_one : (e : ℕ) → e < length links → net.tail e ≡ 1 → (e ≡ 1) ⊎ ((e ≡ 4) ⊎ (41 ≤ net.weight e))
+  only_one e l t = let s = starts e 1 l t in grind arith
+
+  only_zero : (e : ℕ) → e < length links → net.tail e ≡ 0 → (e ≡ 0) ⊎ ((e ≡ 3) ⊎ (41 ≤ net.weight e))
+  only_zero e l t = let s = starts e 0 l t in grind arith
+
+  -- the way on behind a link of a number
+  behind : (e k v : ℕ) (ls : List ℕ) → e ≡ k → net.head k ≡ v → Walk net (net.head e) ls 3 → Walk net v ls 3
+  behind e k v ls is at w = subst (λ u. Walk net u ls 3) (ap net.head is ∙ at) w
 
   from_three : (ls : List ℕ) → Walk net 3 ls 3 → (ls ≡ []) ⊎ (41 ≤ cost net ls)
   from_three [] w = inl refl
-  from_three (e ∷ ls) w =
-      inr (⊎_elim (λ h. absurd (omega (arith, h.1)))
-      (⊎_elim (λ h. absurd (omega (arith, h.1)))
-      (⊎_elim (λ h. absurd (omega (arith, h.1)))
-      (⊎_elim (λ h. absurd (omega (arith, h.1)))
-      (⊎_elim (λ h. absurd (omega (arith, h.1))) (λ h. omega (arith, h)))))) (starts e 3 w.0 w.1))
+  from_three (e ∷ ls) w = let d = only_three e w.0 w.1 in inr (omega arith)
 
   from_two : (ls : List ℕ) → Walk net 2 ls 3 → (ls ≡ 2 ∷ []) ⊎ (41 ≤ cost net ls)
   from_two [] w = absurd (omega (arith, w))
-  from_two (e ∷ ls) w =
-      ⊎_elim (λ h. absurd (omega (arith, h.1)))
-      (⊎_elim (λ h. absurd (omega (arith, h.1)))
-      (⊎_elim (λ h. ⊎_elim (λ k. inl (ap (λ x. x ∷ ls) h.0 ∙ ap (λ r. 2 ∷ r) k)) (λ k. inr (omega (arith, k)))
-      (from_three ls (subst (λ (v : ℕ). Walk net v ls 3) (ap net.head h.0 ∙ T.trap.third.1) w.2)))
-      (⊎_elim (λ h. absurd (omega (arith, h.1)))
-      (⊎_elim (λ h. absurd (omega (arith, h.1))) (λ h. inr (omega (arith, h))))))) (starts e 2 w.0 w.1)
+  from_two (e ∷ ls) w = elim (only_two e w.0 w.1) [
+    | inl h ↦ elim (from_three ls (behind e 2 3 ls h T.trap.third.1 w.2)) [ inl k ↦ inl cc | inr k ↦ inr (omega arith) ]
+    | inr d ↦ inr (omega arith)
+  ]
 
   from_one : (ls : List ℕ) → Walk net 1 ls 3 → (ls ≡ 1 ∷ 2 ∷ []) ⊎ (cost net (1 ∷ 2 ∷ []) < cost net ls)
   from_one [] w = absurd (omega (arith, w))
-  from_one (e ∷ ls) w =
-      let cheap = T.trap.cheap in
-      let one = T.trap.dearer_one in
-      let two = T.trap.dearer_two in
-      ⊎_elim (λ h. absurd (omega (arith, h.1)))
-      (⊎_elim (λ h. ⊎_elim (λ k. inl (ap (λ x. x ∷ ls) h.0 ∙ ap (λ r. 1 ∷ r) k)) (λ k. inr (omega (arith, k)))
-      (from_two ls (subst (λ (v : ℕ). Walk net v ls 3) (ap net.head h.0 ∙ T.trap.second.1) w.2)))
-      (⊎_elim (λ h. absurd (omega (arith, h.1)))
-      (⊎_elim (λ h. absurd (omega (arith, h.1)))
-      (⊎_elim (λ h. inr (omega (arith, ap net.weight h.0))) (λ h. inr (omega (arith, h))))))) (starts e 1 w.0 w.1)
+  from_one (e ∷ ls) w = elim (only_one e w.0 w.1) [
+    | inl h ↦ elim (from_two ls (behind e 1 2 ls h T.trap.second.1 w.2)) [ inl k ↦ inl cc | inr k ↦ inr (omega (arith, T.trap.cheap, T.trap.dearer_two)) ]
+    | inr other ↦ elim other [
+      | inl h ↦ inr (omega (arith, T.trap.dearer_two, ap net.weight h))
+      | inr d ↦ inr (omega (arith, T.trap.cheap, T.trap.dearer_two))
+    ]
+  ]
 
   from_zero : (ls : List ℕ) → Walk net 0 ls 3 → (ls ≡ 0 ∷ 1 ∷ 2 ∷ []) ⊎ (cost net (0 ∷ 1 ∷ 2 ∷ []) < cost net ls)
   from_zero [] w = absurd (omega (arith, w))
@@ -105,13 +107,16 @@ module _ (links : List Link) (T : Trapped links) (long : 5 ≤ length links) whe
       let cheap = T.trap.cheap in
       let one = T.trap.dearer_one in
       let two = T.trap.dearer_two in
-      ⊎_elim (λ h. ⊎_elim (λ k. inl (ap (λ x. x ∷ ls) h.0 ∙ ap (λ r. 0 ∷ r) k)) (λ k. inr (omega (arith, k, ap net.weight h.0)))
-      (from_one ls (subst (λ (v : ℕ). Walk net v ls 3) (ap net.head h.0 ∙ T.trap.first.1) w.2)))
-      (⊎_elim (λ h. absurd (omega (arith, h.1)))
-      (⊎_elim (λ h. absurd (omega (arith, h.1)))
-      (⊎_elim (λ h. ⊎_elim (λ k. inr (omega (arith, ap net.weight h.0, ap (cost net) k))) (λ k. inr (omega (arith, k)))
-      (from_two ls (subst (λ (v : ℕ). Walk net v ls 3) (ap net.head h.0 ∙ T.trap.past_one.1) w.2)))
-      (⊎_elim (λ h. absurd (omega (arith, h.1))) (λ h. inr (omega (arith, h))))))) (starts e 0 w.0 w.1)
+      elim (only_zero e w.0 w.1) [
+        | inl h ↦ elim (from_one ls (behind e 0 1 ls h T.trap.first.1 w.2)) [ inl k ↦ inl cc | inr k ↦ inr (omega (arith, ap net.weight h)) ]
+        | inr other ↦ elim other [
+          | inl h ↦ elim (from_two ls (behind e 3 2 ls h T.trap.past_one.1 w.2)) [
+            | inl k ↦ inr (omega (arith, ap net.weight h, ap (cost net) k))
+            | inr k ↦ inr (omega arith)
+          ]
+          | inr d ↦ inr (omega arith)
+        ]
+      ]
 
   pub misleads : Misleads links
   misleads = record {

@@ -1,5 +1,6 @@
 -- What trials come to.
-use Rattle.std.specs.Prelude.{◌≡◌, ℕ, ◌+◌, ◌*◌, ◌≤◌, Bool, cond, is_some, Option}
+use Rattle.std.specs.Prelude.{◌≡◌, ℕ, ◌+◌, ◌*◌, ◌≤◌, Bool, cond, List, ◌++◌, codes, is_some, Option}
+use Rattle.std.specs.Fmt.{decimal}
 use Rattle.network.specs.declared.network.Network.{Network}
 use Rattle.enumeration.specs.Costs.{PairCost}
 use Rattle.trials.specs.declared.tally.Tally.{Tally}
@@ -12,6 +13,11 @@ together a b = record {
   pairs = a.pairs + b.pairs;
   differ = a.differ + b.differ;
 }
+
+-- a tally as text
+abbrev pub line_of : Tally → List ℕ
+line_of t =
+    decimal t.networks ++ (codes " networks, " ++ (decimal t.queries ++ (codes " queries, " ++ (decimal t.pairs ++ (codes " with a pair, " ++ (decimal t.differ ++ codes " differ"))))))
 
 -- so many networks and queries, none of which differed
 pub record Agreed (tried runs : ℕ) (t : Tally) : Type 0 where

@@ -1,18 +1,20 @@
 // Families of networks, and the trials of each.
-ghost use Rattle.std.specs.Prelude.{◌≡◌, IfOk};
+ghost use Rattle.std.specs.Prelude.{◌≡◌, Some, IfOk};
 ghost use Rattle.trials.specs.Families.{Undisturbed, name_of_kind, name_of};
 ghost use Rattle.trials.specs.Tallies.{AllAgreed};
 
-use crate::compare::try_network;
+use crate::compare::Trial;
 use crate::draft::{Kind, make_network};
 use crate::generator::Generator;
 use crate::tally::Tally;
 use std::alloc::{AllocError, Global};
+use std::fmt;
 
 const MOST_LINKS: usize = 128;
 
 const NETWORKS: u32 = 100;
 
+// Not an Option: with outages a network has a kind too, drawn anew for each.
 #[derive(Clone, Copy)]
 pub(crate) enum Family {
     // Networks of one kind, with all links usable.
@@ -21,24 +23,26 @@ pub(crate) enum Family {
     Outages,
 }
 
-fn kind_name(kind: Kind) -> &'static str
-    ensures { result.now ≡ name_of_kind kind }
-{
-    match kind {
-        Kind::Scattered => "random costs",
-        Kind::Ties => "ties",
-        Kind::Parallel => "parallel links",
-        Kind::Traps => "traps",
+impl fmt::Display for Kind {
+    ghost output = { λ kind. Some (name_of_kind kind) };
+
+    fn fmt<W: fmt::Write>(&self, f: &mut fmt::Formatter<W>) -> fmt::Result {
+        f.write_str(match self {
+            Kind::Scattered => "random costs",
+            Kind::Ties => "ties",
+            Kind::Parallel => "parallel links",
+            Kind::Traps => "traps",
+        })
     }
 }
 
-impl Family {
-    pub(crate) fn name(self) -> &'static str
-        ensures { result.now ≡ name_of self }
-    {
+impl fmt::Display for Family {
+    ghost output = { λ family. Some (name_of family) };
+
+    fn fmt<W: fmt::Write>(&self, f: &mut fmt::Formatter<W>) -> fmt::Result {
         match self {
-            Family::All(kind) => kind_name(kind),
-            Family::Outages => "outages",
+            Family::All(kind) => kind.fmt(f),
+            Family::Outages => f.write_str("outages"),
         }
     }
 }
@@ -56,39 +60,49 @@ fn any_kind(generator: &mut Generator) -> Kind {
 // Which links are usable: three of four, by chance.
 fn any_links(generator: &mut Generator) -> [bool; MOST_LINKS] {
     let mut usable = [false; MOST_LINKS];
-    for e in 0..MOST_LINKS {
-        usable[e] = generator.between(0, 3) > 0;
+    for link in usable.iter_mut() {
+        *link = generator.between(0, 3) > 0;
     }
     usable
 }
 
-// Which links are usable in a network of a family.
-fn usable_links(family: Family, generator: &mut Generator) -> [bool; MOST_LINKS]
-    ensures { Undisturbed family result }
-{
-    match family {
-        Family::All(_) => [true; MOST_LINKS],
-        Family::Outages => any_links(generator),
-    }
-}
-
-// Tries 100 networks of a family.
-pub(crate) fn try_family(
-    family: Family,
-    generator: &mut Generator,
-    heap: Global,
-) -> Result<Tally, AllocError>
-    ensures { IfOk result (λ tally. AllAgreed 100 tally) }
-{
-    let mut tally = Tally::none();
-    for _n in 0..NETWORKS {
-        let kind = match family {
+impl Family {
+    // The kind of its next network.
+    fn kind(self, generator: &mut Generator) -> Kind {
+        match self {
             Family::All(kind) => kind,
             Family::Outages => any_kind(generator),
-        };
-        let network = make_network(kind, generator, heap)?;
-        let usable = usable_links(family, generator);
-        tally = tally.plus(try_network(&network, &usable));
+        }
     }
-    Ok(tally)
+
+    // Which links are usable in it.
+    fn usable(self, generator: &mut Generator) -> [bool; MOST_LINKS]
+        ensures { Undisturbed self result }
+    {
+        match self {
+            Family::All(_) => [true; MOST_LINKS],
+            Family::Outages => any_links(generator),
+        }
+    }
+
+    // Tries 100 networks of the family.
+    pub(crate) fn try_networks(
+        self,
+        generator: &mut Generator,
+        heap: Global,
+    ) -> Result<Tally, AllocError>
+        ensures { IfOk result (λ tally. AllAgreed 100 tally) }
+    {
+        let mut tally = Tally::default();
+        for _n in 0..NETWORKS {
+            let network = make_network(self.kind(generator), generator, heap)?;
+            let usable = self.usable(generator);
+            let trial = Trial {
+                network: &network,
+                usable: &usable,
+            };
+            tally = tally + trial.try_all();
+        }
+        Ok(tally)
+    }
 }

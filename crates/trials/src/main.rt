@@ -8,7 +8,7 @@ mod generator;
 mod tally;
 
 use draft::Kind;
-use families::{Family, try_family};
+use families::Family;
 use generator::Generator;
 use std::io;
 use tally::Tally;
@@ -21,26 +21,13 @@ const FAMILIES: [Family; 5] = [
     Family::Outages,
 ];
 
-// Writes a tally under a name.
-fn report(rt: &impl Print, name: &str, tally: Tally) -> io::Result<()> {
-    let Tally {
-        networks,
-        queries,
-        pairs,
-        differ,
-    } = tally;
-    println!(rt;
-        "{name}: {networks} networks, {queries} queries, {pairs} with a pair, {differ} differ"
-    )
-}
-
 fn main(rt: HostRuntime) -> io::Result<()> {
     let mut generator = Generator::new(1);
-    let mut total = Tally::none();
+    let mut total = Tally::default();
     for family in FAMILIES {
-        let tally = try_family(family, &mut generator, rt.alloc())?;
-        report(&rt, family.name(), tally)?;
-        total = total.plus(tally);
+        let tally = family.try_networks(&mut generator, rt.alloc())?;
+        println!(rt; "{family}: {tally}")?;
+        total = total + tally;
     }
-    report(&rt, "all", total)
+    println!(rt; "all: {total}")
 }

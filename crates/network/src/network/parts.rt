@@ -1,42 +1,28 @@
 // The parts of a network: how it is made of them, and how they are read.
-ghost use Rattle.std.specs.Prelude.{◌≡◌, ◌<◌, ◌≤◌, map, length, MatchOption, MatchResult, slice_index_or};
+ghost use Rattle.std.specs.Prelude.{◌≡◌, ◌<◌, ◌≤◌, map, length, IfOk, MatchOption, slice_index_or};
 ghost use Rattle.graph.specs.Graphs.{GraphOf};
 ghost use Rattle.network.specs.Arcs.{arc_of};
-ghost use Rattle.network.specs.declared.fault.Fault.TheVariants.{NoMemory};
 ghost use Rattle.network.specs.Limits.{blank, Sound};
+ghost use Rattle.network.specs.Made.{Made};
 ghost use Rattle.network.specs.Networks.{link_list, node_count};
 
-use crate::{Fault, Link, Network};
+use crate::limits::are_sound;
+use crate::{Link, LinksFault, Network};
 use graph::{Arc, Graph, GraphFault};
-use std::alloc::Global;
-
-// The arc of a link: its weight is the cost.
-fn arc_of(link: Link) -> Arc
-    ensures { result ≡ arc_of link }
-{
-    Arc {
-        tail: link.tail,
-        head: link.head,
-        weight: link.cost as u32,
-    }
-}
+use std::alloc::{AllocError, Global};
 
 // The arcs of links, in their order.
-fn arcs_of(links: &[Link], heap: Global) -> Result<Vec<Arc>, Fault>
-    ensures { MatchResult result (λ v. v.items ≡ map arc_of links.now) (λ f. f ≡ NoMemory) }
+fn arcs_of(links: &[Link], heap: Global) -> Result<Vec<Arc>, AllocError>
+    ensures { IfOk result (λ arcs. arcs.items ≡ map arc_of links.now) }
 {
-    let mut arcs = Vec::new(heap);
-    for link in links {
-        arcs.push(arc_of(*link))?;
-    }
-    Ok(arcs)
+    links.iter().copied().map(Arc::from).collect(heap)
 }
 
 impl Network {
     // The network of so many nodes with these links, which keep the limits.
-    pub(crate) fn new(nodes: u8, links: Vec<Link>, heap: Global) -> Result<Network, Fault>
+    pub(crate) fn new(nodes: u8, links: Vec<Link>, heap: Global) -> Result<Network, AllocError>
         requires { Sound nodes links.items }
-        ensures { MatchResult result (λ net. (node_count net ≡ nodes) × (link_list net ≡ links.items)) (λ f. f ≡ NoMemory) }
+        ensures { IfOk result (λ net. (node_count net ≡ nodes) × (link_list net ≡ links.items)) }
     {
         let arcs = arcs_of(&links, heap)?;
         match Graph::new(nodes, arcs, heap) {
@@ -45,11 +31,19 @@ impl Network {
                 links,
                 graph,
             }),
-            Err(fault) => match fault {
-                GraphFault::NoMemory => Err(Fault::NoMemory),
-                GraphFault::OutOfLimits => unreachable(),
-            },
+            Err(GraphFault::NoMemory) => Err(AllocError),
+            Err(GraphFault::OutOfLimits) => unreachable!(),
         }
+    }
+
+    // The network of so many nodes with these links, unless they break a limit or memory is wanting.
+    pub fn of_links(nodes: u8, links: Vec<Link>, heap: Global) -> Result<Network, LinksFault>
+        ensures { Made nodes links.items result }
+    {
+        if !are_sound(nodes, &links) {
+            return Err(LinksFault::OutOfLimits);
+        }
+        Ok(Network::new(nodes, links, heap)?)
     }
 
     // The number of nodes.

@@ -1,13 +1,11 @@
-use Rattle.std.proofs.Common.{length}
+use Rattle.std.proofs.Common.{◌≡◌, length, arith}
+use Rattle.std.specs.Option.{option_map_or}
+use Rattle.std.proofs.lemmas.Grind.{common_steps}
 use Rattle.pair_costs.proofs.Costs.{found_costs}
 use Rattle.pair_costs.proofs.cost_between.Goals as goal
 
-pub returns-in-Some : goal.returns-in-Some
-returns-in-Some c =
-    found_costs c.args.network.now c.args.source c.args.target (length c.args.words.now) (length c.args.entries.now)
-    c.requires.sound c.requires.ends.0 c.requires.ends.1 c.in-Ok.found _ c.in-Some.is c.in-Ok.ensures.answer
-
-pub returns-in-None : goal.returns-in-None
-returns-in-None c =
-    found_costs c.args.network.now c.args.source c.args.target (length c.args.words.now) (length c.args.entries.now)
-    c.requires.sound c.requires.ends.0 c.requires.ends.1 c.in-Ok.found _ c.in-None.is c.in-Ok.ensures.answer
+pub returns : goal.returns
+returns c =
+    let cost : c.map_or.result ≡ option_map_or (λ p. p.cost) c.in-Ok.found 0 = grind (arith, common_steps, c.map_or.ensures) in
+    found_costs c.args.network.now c.args.source c.args.target (length c.args.workspace.now.words) (length c.args.workspace.now.entries)
+    c.requires.sound c.requires.ends.0 c.requires.ends.1 c.in-Ok.found c.in-Ok.ensures.answer c.map_or.result cost

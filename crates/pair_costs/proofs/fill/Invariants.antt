@@ -1,9 +1,8 @@
-use Rattle.std.proofs.Common.{◌≡◌, ℕ, ◌/◌, ◌%◌, ◌<◌, length, get_or}
+use Rattle.std.proofs.Common.{ℕ, ◌/◌, ◌%◌, ◌<◌, get_or}
 use Rattle.network.specs.Networks.{link_list, node_count}
 use Rattle.pair_costs.specs.Table.{CostBetween}
 use Rattle.pair_costs.proofs.fill.Given as goal
 
 abbrev pub invariant-loop-k : goal.invariant-loop-k
 invariant-loop-k l =
-    (length l.words ≡ 448) × (length l.entries ≡ 32)
-    × ((k : ℕ) → k < l.k → CostBetween (link_list l.network) (k / node_count l.network) (k % node_count l.network) (get_or l.costs k 0))
+    (k : ℕ) → k < l.k → CostBetween (link_list l.network) (k / node_count l.network) (k % node_count l.network) (get_or l.costs k 0)

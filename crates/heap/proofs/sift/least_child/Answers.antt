@@ -6,12 +6,12 @@ use Rattle.heap.proofs.sift.least_child.Goals.{else-right-len-via-then-right-len
 pub returns-then-before : goal.returns-then-before
 returns-then-before g c = record {
   child = omega arith;
-  least = right_child g.T.Ord.cmp c.args.items.now c.args.parent (2 * c.args.parent + 1) c.args.len (omega arith) c.if-before.ensures;
+  least = right_child g.met.T.Ord.total c.args.items.now c.args.parent (2 * c.args.parent + 1) c.args.len (omega arith) c.if-before.ensures;
 }
 
 pub returns : goal.returns
 returns g c =
-    let R = g.T.Ord.cmp in
+    let R = g.met.T.Ord.total in
     let xs = c.args.items.now in
     let j = c.args.parent in
     let n = c.args.len in

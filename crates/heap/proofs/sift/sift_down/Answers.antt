@@ -6,7 +6,7 @@ use Rattle.heap.proofs.sift.sift_down.Goals as goal
 pub loop-parent-init : goal.loop-parent-init
 loop-parent-init g c =
     let xs = c.args.items.now in
-    (λ n _. moves.still n xs, sink_begins g.T.Ord.cmp xs c.args.len)
+    (λ n _. moves.still n xs, sink_begins g.met.T.Ord.total xs c.args.len)
 
 pub loop-parent-preserved : goal.loop-parent-preserved
 loop-parent-preserved g c =
@@ -19,8 +19,8 @@ loop-parent-preserved g c =
     let swap = c.swap.ensures in
     let inv = c.loop-parent.invariant in (
       λ n l. moves.again n xs ys zs (inv.0 n l) (moves.swapped n ys zs j k (omega arith) (omega arith) (omega arith) (omega arith) swap.after),
-      sink_steps g.T.Ord.cmp xs ys zs c.args.len j k found.child.1 found.child.2 found.child.0
-          (record { one = swap.by_index.0; other = swap.by_index.1; rest = swap.by_index.2 }) found.least c.if-not-before.ensures inv.1,
+      sink_steps g.met.T.Ord.total xs ys zs c.args.len j k found.child.1 found.child.2 found.child.0
+          swap.by_index found.least c.if-not-before.ensures inv.1,
     )
 
 pub returns-then-not-before : goal.returns-then-not-before
@@ -28,7 +28,7 @@ returns-then-not-before g c =
     let inv = c.loop-parent.invariant in
     record {
       moved = inv.0;
-      sinks = sink_rests g.T.Ord.cmp c.args.items.now c.loop-parent.items c.args.len c.loop-parent.parent c.least_child-child.result
+      sinks = sink_rests g.met.T.Ord.total c.args.items.now c.loop-parent.items c.args.len c.loop-parent.parent c.least_child-child.result
           c.least_child-child.ensures.least c.if-not-before.ensures inv.1;
     }
 
@@ -37,5 +37,5 @@ returns g c =
     let inv = c.loop-parent.invariant in
     record {
       moved = inv.0;
-      sinks = sink_ends g.T.Ord.cmp c.args.items.now c.loop-parent.items c.args.len c.loop-parent.parent c.loop-parent-test.false inv.1;
+      sinks = sink_ends g.met.T.Ord.total c.args.items.now c.loop-parent.items c.args.len c.loop-parent.parent c.loop-parent-test.false inv.1;
     }

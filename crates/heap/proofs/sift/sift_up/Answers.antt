@@ -6,7 +6,7 @@ use Rattle.heap.proofs.sift.sift_up.Goals as goal
 pub loop-child-init : goal.loop-child-init
 loop-child-init g c =
     let xs = c.args.items.now in
-    (omega arith, λ n _. moves.still n xs, rise_begins g.T.Ord.cmp xs c.args.from)
+    (omega arith, λ n _. moves.still n xs, rise_begins g.met.T.Ord.total xs c.args.from)
 
 pub loop-child-preserved : goal.loop-child-preserved
 loop-child-preserved g c =
@@ -18,8 +18,8 @@ loop-child-preserved g c =
     let inv = c.loop-child.invariant in (
       omega arith,
       λ n l. moves.again n xs ys zs (inv.1 n l) (moves.swapped n ys zs ((j - 1) / 2) j (omega arith) (omega arith) (omega arith) (omega arith) swap.after),
-      rise_steps g.T.Ord.cmp xs ys zs c.args.from j c.loop-child-test.true inv.0
-          (record { one = swap.by_index.0; other = swap.by_index.1; rest = swap.by_index.2 }) c.if-not-before.ensures inv.2,
+      rise_steps g.met.T.Ord.total xs ys zs c.args.from j c.loop-child-test.true inv.0
+          swap.by_index c.if-not-before.ensures inv.2,
     )
 
 pub returns-then-not-before : goal.returns-then-not-before
@@ -27,7 +27,7 @@ returns-then-not-before g c =
     let inv = c.loop-child.invariant in
     record {
       moved = inv.1;
-      rises = rise_rests g.T.Ord.cmp c.args.items.now c.loop-child.items c.args.from c.loop-child.child c.if-not-before.ensures inv.2;
+      rises = rise_rests g.met.T.Ord.total c.args.items.now c.loop-child.items c.args.from c.loop-child.child c.if-not-before.ensures inv.2;
     }
 
 pub returns : goal.returns
@@ -35,5 +35,5 @@ returns g c =
     let inv = c.loop-child.invariant in
     record {
       moved = inv.1;
-      rises = rise_tops g.T.Ord.cmp c.args.items.now c.loop-child.items c.args.from c.loop-child.child (omega arith) inv.2;
+      rises = rise_tops g.met.T.Ord.total c.args.items.now c.loop-child.items c.args.from c.loop-child.child (omega arith) inv.2;
     }

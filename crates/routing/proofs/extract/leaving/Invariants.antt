@@ -1,5 +1,7 @@
-use Rattle.std.proofs.Common.{◌≡◌, ℕ, ◌<◌, ◌≤◌, get_or}
+use Rattle.std.proofs.Common.{◌≡◌, ℕ, ◌<◌, get_or}
+use Rattle.routing.specs.declared.state.State.TheVariants.{Chosen}
+use Rattle.routing.specs.Entries.{state_at}
 use Rattle.routing.proofs.extract.leaving.Given as goal
 
-abbrev pub invariant-loop-p : goal.invariant-loop-p
-invariant-loop-p l = (k : ℕ) → get_or l.graph.leaving.first.now l.node 0 ≤ k → k < l.p → get_or l.states (get_or l.graph.leaving.order.now k 0) 0 ≡ 2 → ⊥
+abbrev pub invariant-loop-e : goal.invariant-loop-e
+invariant-loop-e l = (k : ℕ) → k < l.e-index → state_at l.states (get_or l.e-items k 0) ≡ Chosen → ⊥

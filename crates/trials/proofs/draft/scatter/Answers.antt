@@ -1,10 +1,9 @@
-use Rattle.std.proofs.Common.{vec_items, refl}
+use Rattle.std.proofs.lemmas.Result.{IfOk-weaker}
 use Rattle.trials.proofs.Drawing.{spread}
 use Rattle.trials.proofs.draft.scatter.Goals as goal
 
 pub returns : goal.returns
-returns c = (
-  refl,
-  spread c.args.nodes c.args.low c.args.high c.args.count (vec_items c.new-links.result) (vec_items c.add_links.new.links)
-      c.new-links.ensures.items c.requires.ends.0 c.requires.ends.1 c.requires.count.0 c.requires.count.1 c.in_ok-add_links.ensures,
-)
+returns c =
+    let shape = c.args.shape in
+    let made = spread _ _ _ _ _ _ c.new-links.ensures.items shape.ends.0 shape.ends.1 c.requires.0 c.requires.1 c.in_ok-add_links.ensures in
+    IfOk-weaker c.build.result _ _ (λ net built. (built.0, rw built.1 made)) c.build.ensures

@@ -1,14 +1,17 @@
-use Rattle.graph.proofs.Graphs.{graph_within, graph_leaving, graph_entering}
+use Rattle.std.proofs.Common.{length}
+use Rattle.graph.specs.Arcs.{head_of, tail_of}
+use Rattle.graph.specs.Graphs.{arc_list}
+use Rattle.graph.proofs.Listings.{indexed_from_lists}
 use Rattle.graph.proofs.graph.Graph.view.Goals as goal
 
-pub returns : goal.returns
-returns c =
+pub returns-clause-leaving : goal.returns-clause-leaving
+returns-clause-leaving c =
     let g = c.args.self.now in
-    let lent = c.lend.ensures in
-    record {
-      nodes = lent.nodes;
-      arcs = lent.arcs;
-      within = rw (lent.nodes, lent.arcs) (graph_within g);
-      leaving = rw (lent.nodes, lent.arcs, lent.leaving_first, lent.leaving_order) (graph_leaving g);
-      entering = rw (lent.nodes, lent.arcs, lent.entering_first, lent.entering_order) (graph_entering g);
-    }
+    let arcs = arc_list g in
+    rw (c.deref.ensures.value, c.sorted.ensures.first, c.sorted.ensures.order) (indexed_from_lists (tail_of arcs) (length arcs) g.nodes _ _ g.by_tail (λ e h. (g.sound e h).0))
+
+pub returns-clause-entering : goal.returns-clause-entering
+returns-clause-entering c =
+    let g = c.args.self.now in
+    let arcs = arc_list g in
+    rw (c.deref.ensures.value, c.sorted-2.ensures.first, c.sorted-2.ensures.order) (indexed_from_lists (head_of arcs) (length arcs) g.nodes _ _ g.by_head (λ e h. (g.sound e h).1))

@@ -1,25 +1,23 @@
-use Rattle.std.proofs.Common.{◌≤◌, length, ap, ◌∙◌, subst, arith}
+use Rattle.std.proofs.Common.{◌≤◌, length, ap, subst, arith}
 use Rattle.std.proofs.lemmas.Result.{err_from_is_err_and}
-use Rattle.network.specs.Reading.{GivesLink}
-use Rattle.network.proofs.Collected.{collect_more, collect_all, sound_push, network_from, network_there}
+use Rattle.network.specs.Reading.{GivesLink, words_of}
+use Rattle.network.proofs.Collected.{collect_more, collect_all, network_there}
 use Rattle.network.proofs.reader.Reader.collect.Goals as goal
 
 pub loop-self-preserved : goal.loop-self-preserved
 loop-self-preserved c =
     let inv = c.loop-self.invariant in
-    let long = ap length inv.0 in
-    let header = c.requires.header in
-    let link = c.in_ok-link.ensures in
     let items = c.in_ok-push.ensures.items in
-    let given = subst (λ ws. GivesLink c.args.nodes ws c.loop-self.self.place c.in_ok-link.link) inv.0 link.cases.0 in
-    let more = collect_more _ _ _ _ _ (omega arith) given inv.3 in
-    let sound = sound_push _ _ _ inv.4 given.sound in (
-      link.same ∙ inv.0,
-      omega arith,
-      rw (link.same, link.cases.1) (omega arith),
-      rw (items, link.cases.1) more,
-      rw items sound,
-    )
+    let link = c.in_ok-link.ensures in
+    let next = link.1 in
+    let given = subst (λ ws. GivesLink c.args.nodes ws c.loop-self.self.place c.in_ok-link.link) inv.same link.0 in
+    let long = ap length inv.same in
+    record {
+      same = rw next inv.same;
+      odd = rw next (omega arith);
+      within = rw next (omega (arith, c.requires.header.long));
+      collected = rw (items, next) (collect_more _ _ _ _ _ (omega (arith, c.requires.header.long)) inv.collected given);
+    }
 
 pub returns-in_err-push : goal.returns-in_err-push
 returns-in_err-push c =
@@ -29,6 +27,5 @@ returns-in_err-push c =
 pub returns : goal.returns
 returns c =
     let inv = c.loop-self.invariant in
-    let long = ap length inv.0 in
-    let past : length c.args.self.now.words.now ≤ c.loop-self.self.place = omega arith in
-    network_from _ _ _ c.requires.header (collect_all _ _ _ past inv.3) inv.4
+    let past : length (words_of c.args.self.now) ≤ c.loop-self.self.place = omega (arith, ap length inv.same) in
+    collect_all _ _ _ _ c.requires.header past inv.collected

@@ -1,0 +1,50 @@
+// A path in the making.
+ghost use Rattle.std.specs.Prelude.{◌≡◌, ◌<◌};
+ghost use Rattle.enumeration.specs.Walks.{begun, followed, leads_on};
+
+use network::Link;
+
+pub(crate) const MOST_NODES: usize = 32;
+
+pub(crate) const MOST_LINKS: usize = 128;
+
+#[derive(Clone, Copy)]
+pub(crate) struct Trail {
+    // The links that no path has taken.
+    pub(crate) free: [bool; MOST_LINKS],
+    // The nodes that this path has visited.
+    seen: [bool; MOST_NODES],
+    // The last of them.
+    pub(crate) node: u8,
+}
+
+impl Trail {
+    // A trail that has visited only `node`.
+    pub(crate) fn begin(free: [bool; MOST_LINKS], node: u8) -> Trail
+        requires { node < 32 }
+        ensures { result ≡ begun free node }
+    {
+        let mut seen = [false; MOST_NODES];
+        seen[node as usize] = true;
+        Trail { free, seen, node }
+    }
+
+    // Whether `link`, number `e`, leads on: it is free and starts at the last node, and its head is not seen.
+    pub(crate) fn leads_on(&self, e: usize, link: Link) -> bool
+        requires { (e < 128) × (link.head < 32) }
+        ensures { result ≡ leads_on self.now e link.tail link.head }
+    {
+        self.free[e] && link.tail == self.node && !self.seen[link.head as usize]
+    }
+
+    // The trail once it has followed `link`, number `e`.
+    pub(crate) fn follow(mut self, e: usize, link: Link) -> Trail
+        requires { (e < 128) × (link.head < 32) }
+        ensures { result ≡ followed self e link.head }
+    {
+        self.free[e] = false;
+        self.seen[link.head as usize] = true;
+        self.node = link.head;
+        self
+    }
+}

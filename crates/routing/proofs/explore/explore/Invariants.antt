@@ -1,0 +1,15 @@
+use Rattle.std.proofs.Common.{◌≡◌, true, length}
+use Rattle.graph.specs.Graphs.{node_count}
+use Rattle.routing.specs.Settle.{Missed, Settled}
+use Rattle.routing.specs.Views.{net_of}
+use Rattle.routing.proofs.explore.explore.Given as goal
+
+abbrev pub invariant-loop-key : goal.invariant-loop-key
+invariant-loop-key l =
+    Settled (net_of l.task.graph.now) l.states l.pots l.preds l.task.source l.heap.items.now l.heap.len (λ _. true)
+    × Missed l.heap.items.now l.heap.len l.task.target
+    × (length l.heap.items.now ≡ node_count l.task.graph.now)
+    × (l.heap.items.ghost_name ≡ l.initial.heap.items.ghost_name)
+
+abbrev pub decreases-loop-key : goal.decreases-loop-key
+decreases-loop-key l = l.heap.len

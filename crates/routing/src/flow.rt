@@ -1,0 +1,17 @@
+// A flow: the arcs that are chosen, and potentials that certify that they are chosen as cheaply as can be.
+ghost use Rattle.graph.specs.Graphs.{node_count};
+ghost use Rattle.std.specs.Prelude.{◌≡◌, length};
+
+use crate::state::State;
+use crate::task::Task;
+
+pub(crate) const MOST_ARCS: usize = 128;
+
+#[derive(Drop)]
+pub(crate) struct Flow<'a> {
+    pub(crate) task: Task<'a>,
+    pub(crate) states: [State; MOST_ARCS],
+    pub(crate) pots: &'a mut [u32],
+    ghost states_long: { length states ≡ 128 },
+    ghost pots_long: { length pots.now ≡ node_count task.graph.now },
+}
