@@ -19,7 +19,7 @@ struct Search<'a> {
     ghost inside: { source < 32 },
 }
 
-// The lower of two costs, of which there may be none.
+// The lower of two costs; `None` is no cost, and stands aside.
 fn lower(a: Option<u32>, b: Option<u32>) -> Option<u32>
     ensures { result ≡ smaller a b }
 {

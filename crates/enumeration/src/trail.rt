@@ -25,7 +25,7 @@ impl Trail {
         ensures { result ≡ begun free node }
     {
         let mut seen = [false; MOST_NODES];
-        seen[node as usize] = true;
+        seen[usize::from(node)] = true;
         Trail { free, seen, node }
     }
 
@@ -34,7 +34,7 @@ impl Trail {
         requires { (e < 128) × (link.head < 32) }
         ensures { result ≡ leads_on self.now e link.tail link.head }
     {
-        self.free[e] && link.tail == self.node && !self.seen[link.head as usize]
+        self.free[e] && link.tail == self.node && !self.seen[usize::from(link.head)]
     }
 
     // The trail once it has followed `link`, number `e`.
@@ -43,7 +43,7 @@ impl Trail {
         ensures { result ≡ followed self e link.head }
     {
         self.free[e] = false;
-        self.seen[link.head as usize] = true;
+        self.seen[usize::from(link.head)] = true;
         self.node = link.head;
         self
     }

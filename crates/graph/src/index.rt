@@ -8,7 +8,7 @@ use crate::{Arc, Sorted};
 use std::alloc::{AllocError, Global};
 
 // The numbers of the arcs by one of their ends: those of the node v stand in `order` from first[v] up to first[v + 1].
-// Two flat lists and no list for each node, since a graph lends them as a `Sorted`.
+// Two flat lists and no list for each node, since the public `Sorted` lends them as they are.
 #[derive(Drop)]
 pub(crate) struct Index {
     first: Vec<u8>,
@@ -51,9 +51,9 @@ impl Index {
         ensures node { node + 1 < length self.now.first.items → result.now ≡ slice_range self.now.order.items (slice_index self.now.first.items node) (slice_index self.now.first.items (node + 1)) }
         ensures no_node { length self.now.first.items ≤ node + 1 → result.now ≡ [] }
     {
-        let node = node as usize;
+        let node = usize::from(node);
         match self.first.get(node + 1) {
-            Some(end) => &self.order[self.first[node] as usize..*end as usize],
+            Some(end) => &self.order[usize::from(self.first[node])..usize::from(*end)],
             None => &[],
         }
     }

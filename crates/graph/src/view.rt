@@ -7,7 +7,7 @@ ghost use Rattle.std.specs.Prelude.{◌≡◌, length};
 use crate::{Arc, Graph};
 
 // The numbers of the arcs by one of their ends: those of the node v stand in `order` from first[v] up to first[v + 1].
-// Two flat lists (compressed sparse rows), since callers read both of them as they are.
+// Two flat lists (compressed sparse rows): `Graph::view` promises both to callers, as they are.
 #[derive(Clone, Copy)]
 pub struct Sorted<'a> {
     pub first: &'a [u8],

@@ -1,15 +1,12 @@
 -- Lists whose first n are in another order, and the rest as it was.
-use Rattle.std.proofs.Common.{◌≡◌, ℕ, zero, suc, ◌+◌, ◌-◌, ◌<◌, ◌≤◌, List, [], ◌∷◌, length, get_or, take, drop, set, sym, refl, ap, ◌∙◌, subst, not-suc-le-zero, arith, length-set, length-take, get_or-drop, get_or-take, drop-set-lt}
+use Rattle.std.proofs.Common.{◌≡◌, ℕ, zero, suc, ◌+◌, ◌-◌, ◌<◌, ◌≤◌, List, [], ◌∷◌, length, get_or, take, drop, set, sym, refl, ap, ◌∙◌, subst, not-suc-le-zero, arith, length-take, get_or-drop, get_or-take, drop-set-lt}
 use lib.Seq.{take-set-lt}
 use Rattle.std.specs.List.{swap}
 use Rattle.std.proofs.lemmas.List.{get_or_default}
+use Rattle.std.proofs.lemmas.List.Edits.{length-swap}
 use Rattle.std.proofs.lemmas.List.Sorted.{IsPermutation-refl, IsPermutation-trans, IsPermutation-sym}
 use Rattle.std.proofs.ByRecursion.{has_shuffled}
 use Rattle.heap.specs.Least.{Moved, Holds}
-
--- an element of the list is the same at each default
-pub any_default : {X : Type 0} (xs : List X) (i : ℕ) (d e : X) → i < length xs → get_or xs i d ≡ get_or xs i e
-any_default = get_or_default
 
 -- `Moved` is an equivalence
 pub still : {X : Type 0} (n : ℕ) (xs : List X) → Moved n xs xs
@@ -43,16 +40,12 @@ drop-exchanged : {X : Type 0} (n : ℕ) (xs : List X) (i j : ℕ) → i < n → 
 drop-exchanged n [] i j a b = refl
 drop-exchanged n (x ∷ xs) i j a b = simp drop-set-lt
 
-length_exchanged : {X : Type 0} (xs : List X) (i j : ℕ) → length (swap xs i j) ≡ length xs
-length_exchanged [] i j = refl
-length_exchanged (x ∷ xs) i j = simp length-set
-
 -- two of the first n in each other's place
 pub swapped : {X : Type 0} (n : ℕ) (xs ys : List X) (i j : ℕ) → i < n → j < n → i < length xs → j < length xs → ys ≡ swap xs i j → Moved n xs ys
 swapped n xs ys i j a b p q e = record {
   items = record { moves = (i, j) ∷ []; below = (in_front n xs i a p, in_front n xs j b q, tt); is = ap (take n) e ∙ take-exchanged n xs i j a b p };
   rest = ap (drop n) e ∙ drop-exchanged n xs i j a b;
-  len = ap length e ∙ length_exchanged xs i j;
+  len = ap length e ∙ length-swap xs i j;
 }
 
 -- what is behind the first n is as it was
@@ -72,5 +65,5 @@ holds_moved n xs ys x m h =
 pub each_moved : {X : Type 0} (P : X → Type 0) (n : ℕ) (xs ys : List X) → n ≤ length xs → Moved n xs ys → ((k : ℕ) (d : X) → k < n → P (get_or xs k d)) → (k : ℕ) (d : X) → k < n → P (get_or ys k d)
 each_moved P n xs ys le m f k d l =
     let long = m.len in
-    let h = holds_moved n ys xs (get_or ys k d) (back n xs ys m) (k, l, omega arith, λ e. any_default ys k e d (omega arith)) in
+    let h = holds_moved n ys xs (get_or ys k d) (back n xs ys m) (k, l, omega arith, λ e. get_or_default ys k e d (omega arith)) in
     subst P (h.3 d) (f h.0 d h.1)

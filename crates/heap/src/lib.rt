@@ -53,8 +53,8 @@ impl<'a, T: Ord + Copy> Heap<'a, T> {
         Heap { items, len }
     }
 
-    // A heap of the first `len` of `items`; `None` if there are fewer. Only `take_in` promises that a refusal leaves them:
-    // the check proves no clause on what a slice holds that goes whole into an `Option`.
+    // A heap of the first `len` of `items`; `None` if there are fewer. That a refusal leaves `items` as they are is promised
+    // by `take_in` alone: here the slice is lent on to the heap, and no clause at `None` on what it holds is proved.
     pub fn of_first(items: &'a mut [T], len: usize) -> Option<Heap<'a, T>>
         ensures { MatchOption result (length items.old < len)
             (λ h. (h.len ≡ len) × (h.items.ghost_name ≡ items.entry.ghost_name) × Moved len items.old h.items.now) }
@@ -184,8 +184,13 @@ mod tests {
         assert!(rt; Heap::of_first(&mut items, 3).is_none());
         let mut heap = Heap::new(&mut items);
         assert_eq!(rt; heap.take_in(3), Err(Full));
+        assert_eq!(rt; heap.peek(), None);
+        assert_eq!(rt; heap.pop(), None);
+        assert_eq!(rt; heap.lower(0, 0), Err(LowerError::NoElement));
         assert_eq!(rt; heap.take_in(1), Ok(()));
         assert_eq!(rt; heap.lower(1, 0), Err(LowerError::NoElement));
+        assert_eq!(rt; heap.take_in(1), Ok(()));
+        assert_eq!(rt; heap.push(0), Err(Full));
         assert_eq!(rt; items, [1, 2]);
     }
 

@@ -1,16 +1,10 @@
--- The limits of a network and of its arcs.
+-- The limits of the arcs of a network.
 use Rattle.std.proofs.Common.{◌≡◌, ℕ, ◌<◌, List, map, length, get_or, ap, arith}
 use Rattle.graph.specs.Arcs as graphs
 use Rattle.std.proofs.lemmas.List.{get_or-map, length-map}
 use Rattle.network.specs.declared.link.Link.{Link}
-use Rattle.network.specs.declared.network.Network.{Network}
 use Rattle.network.specs.Arcs.{arc_of}
 use Rattle.network.specs.Limits.{Sound, blank}
-use Rattle.network.specs.Networks.{node_count, link_list}
-
--- every network keeps the limits
-pub network_sound : (net : Network) → Sound (node_count net) (link_list net)
-network_sound net = net.sound
 
 -- the arcs of sound links are within the limits of a graph
 pub arcs_within : (n : ℕ) (links : List Link) → Sound n links → graphs.Within n (map arc_of links)

@@ -1,11 +1,12 @@
 -- From a fault of a link to a refusal of the words.
 use Rattle.std.proofs.Common.{◌≡◌, ℕ, ◌+◌, ◌%◌, ◌<◌, ◌⊎◌, List, length, get_or, Some, None, Option, refl, ap, ◌∙◌, inl, inr, arith, below_more, eq-eqb}
 use Rattle.std.proofs.lemmas.Bool.Decides.{nat_tests}
+use Rattle.std.specs.Option.{option_or}
 use Rattle.network.specs.declared.fault.Fault.{Fault}
 use Rattle.network.specs.declared.fault.Fault.TheVariants.{NoWord, Header, Length, Kind, Ends, Cost, Limits, NoMemory}
 use Rattle.network.specs.Format.{nodes_in}
 use Rattle.network.specs.Refusals.{FirstFault, Refuses, CleanBelow, word_fault, ends_fault, limits_fault}
-use Rattle.network.specs.Reading.{GivesNodes, link_fault, or_else}
+use Rattle.network.specs.Reading.{GivesNodes, link_fault}
 
 -- the fault of a word is of the kind, the ends, the cost or the limits, at its place
 refused_first : (ws : List ℕ) (p : ℕ) (f : Fault) → FirstFault ws p f → Refuses ws f
@@ -50,7 +51,7 @@ clean_more ws n p given odd below clean =
     λ k lt. two k (omega arith)
 
 -- the first of two faults is that of the first word, or of the second where the first has none
-first_of : (o later : Option Fault) (f : Fault) → or_else o later ≡ Some f → (o ≡ Some f) ⊎ ((o ≡ None) × (later ≡ Some f))
+first_of : (o later : Option Fault) (f : Fault) → option_or o later ≡ Some f → (o ≡ Some f) ⊎ ((o ≡ None) × (later ≡ Some f))
 first_of (Some g) later f e = inl e
 first_of None later f e = inr (refl, e)
 

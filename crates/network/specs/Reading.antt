@@ -1,5 +1,6 @@
 -- What the steps of the reader give.
-use Rattle.std.specs.Prelude.{◌≡◌, ℕ, ◌+◌, ◌*◌, List, length, Some, None, Option, slice_index, slice_index_or}
+use Rattle.std.specs.Prelude.{◌≡◌, ℕ, ◌+◌, ◌*◌, List, length, None, Option, slice_index, slice_index_or}
+use Rattle.std.specs.Option.{option_or}
 use Rattle.network.specs.declared.fault.Fault.{Fault}
 use Rattle.network.specs.declared.link.Link.{Link}
 use Rattle.network.specs.declared.reader.Reader.{Reader}
@@ -30,14 +31,9 @@ abbrev pub GivesLimits : ℕ → ℕ → ℕ × ℕ → Type 0
 GivesLimits p w (capacity, ceiling) =
     (limits_fault p w ≡ None) × (capacity ≡ bits w 27 12) × (ceiling ≡ bits w 11 5)
 
--- the first of two faults
-abbrev pub or_else : Option Fault → Option Fault → Option Fault
-or_else (Some f) later = Some f
-or_else None later = later
-
 -- the fault of a link whose two words stand from place p on: that of the first word, else that of the second
 abbrev pub link_fault : ℕ → List ℕ → ℕ → Option Fault
-link_fault n ws p = or_else (ends_fault n p (slice_index ws p)) (limits_fault (p + 1) (slice_index ws (p + 1)))
+link_fault n ws p = option_or (ends_fault n p (slice_index ws p)) (limits_fault (p + 1) (slice_index ws (p + 1)))
 
 -- the two words from place p on are those of a link within the limits
 pub record GivesLink (n : ℕ) (ws : List ℕ) (p : ℕ) (x : Link) : Type 0 where

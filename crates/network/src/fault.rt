@@ -28,7 +28,7 @@ pub enum Fault {
 }
 
 impl Fault {
-    // The number of the fault, by which a log names it. No conversion: want of memory has none, and that is no error.
+    // The number of the fault, by which a log names it. A match, and no discriminants: want of memory has no number.
     pub fn number(self) -> Option<u8>
         ensures { result ≡ number_of self }
     {
@@ -76,7 +76,7 @@ impl From<AllocError> for Fault {
     }
 }
 
-// Why links make no network.
+// Why links make no network. It is no `GraphFault`: a network's limits are others than a graph's.
 #[derive(Clone, Copy, Debug, PartialEq, Eq)]
 pub enum LinksFault {
     // They, or the number of nodes, break a limit.

@@ -27,5 +27,5 @@ fn is_sound(nodes: u8, link: Link) -> bool
 pub(crate) fn are_sound(nodes: u8, links: &[Link]) -> bool
     ensures { IsTrue result ↔ Sound nodes links.now }
 {
-    may_have(nodes as usize, links.len()) && links.iter().all(|link| is_sound(nodes, *link))
+    may_have(usize::from(nodes), links.len()) && links.iter().all(|link| is_sound(nodes, *link))
 }

@@ -5,7 +5,7 @@ use graph::Arc;
 
 // A one-way link from its tail to its head: what it costs, how many units it can carry, and its ceiling, the largest number
 // of grants that it may carry.
-#[derive(Clone, Copy)]
+#[derive(Clone, Copy, Debug, PartialEq, Eq)]
 pub struct Link {
     pub tail: u8,
     pub head: u8,
@@ -22,7 +22,7 @@ impl From<Link> for Arc {
         Arc {
             tail: link.tail,
             head: link.head,
-            weight: link.cost as u32,
+            weight: u32::from(link.cost),
         }
     }
 }

@@ -13,7 +13,7 @@ use crate::word::{Word, field};
 use crate::{Fault, Link, Network};
 use std::alloc::Global;
 
-// The words, and the place of the next one to read.
+// The words, and the place of the next one to read. It is no iterator of words: a fault names the place.
 #[derive(Clone, Copy)]
 struct Reader<'a> {
     words: &'a [u32],
@@ -73,7 +73,7 @@ impl Reader<'_> {
     }
 
     // Sees that no link word has a fault. The walk of `collect` is its own: one with a closure would promise what both do,
-    // in more lines than it saves.
+    // in more lines than it saves. Both go by the reader's own place, and keep no other index.
     fn check(&mut self, nodes: u8) -> Result<(), Fault>
         requires start { self.old.place ≡ 1 }
         requires header { GivesNodes (words_of self.old) nodes }

@@ -22,9 +22,14 @@ fn reads_and_writes(rt: HostRuntime) -> Result<(), Fail> {
     let network = read(&DIAMOND, rt.alloc())?;
     assert_eq!(rt; network.nodes(), 4);
     assert_eq!(rt; network.links().len(), 5);
-    let last = network.link(4).ok_or("no link")?;
-    assert!(rt; last.tail == 1 && last.head == 3 && last.cost == 4);
-    assert!(rt; last.capacity == 10 && last.ceiling == 64);
+    let last = Link {
+        tail: 1,
+        head: 3,
+        cost: 4,
+        capacity: 10,
+        ceiling: 64,
+    };
+    assert_eq!(rt; network.link(4), Some(last));
     let mut words = [7; 12];
     assert_eq!(rt; network.write(&mut words)?, 11);
     assert!(rt; &words[0..11] == DIAMOND.as_slice());

@@ -13,7 +13,7 @@ fn header_word(nodes: u8, links: usize) -> u32
     requires { links ≤ 128 }
     ensures { result ≡ header_word nodes links }
 {
-    Kind::Header.high_bits() + ((nodes as u32) << 16) + links as u32
+    Kind::Header.high_bits() + (u32::from(nodes) << 16) + links as u32
 }
 
 // A link's ends: tail in bits 27–22, head in 21–16, cost in 15–0.
@@ -22,9 +22,9 @@ fn ends_word(link: Link) -> u32
     ensures { result ≡ ends_word link }
 {
     Kind::Ends.high_bits()
-        + ((link.tail as u32) << 22)
-        + ((link.head as u32) << 16)
-        + link.cost as u32
+        + (u32::from(link.tail) << 22)
+        + (u32::from(link.head) << 16)
+        + u32::from(link.cost)
 }
 
 // Its limits: capacity in bits 27–12, ceiling in 11–5, zero in 4–0.
@@ -32,7 +32,7 @@ fn limits_word(link: Link) -> u32
     requires { link.ceiling ≤ 64 }
     ensures { result ≡ limits_word link }
 {
-    Kind::Limits.high_bits() + ((link.capacity as u32) << 12) + ((link.ceiling as u32) << 5)
+    Kind::Limits.high_bits() + (u32::from(link.capacity) << 12) + (u32::from(link.ceiling) << 5)
 }
 
 impl Network {

@@ -25,7 +25,7 @@ impl Unreadable {
     }
 }
 
-// What a word of an order says, by its bits 31–28.
+// What a word of an order says, by its bits 31–28. Order words are read here alone.
 enum Kind {
     // The nodes and the amount of a reserve.
     Reserve = 5,
@@ -52,8 +52,9 @@ impl Reserve {
     }
 }
 
-// Order words, and the place of the next one. `whole` says that no bytes are left over behind the last word. It is no
-// iterator: a word that cannot be read stays the next one, and a caller sees where the reader stopped.
+// Order words, and the place of the next one. `whole` says that no bytes are left over behind the last word; it stays a flag,
+// since callers give it. It is no iterator: a word that cannot be read stays the next one, and a caller sees where the reader
+// stopped. Network's `Reader` is another: it ends at its first fault, and names the place.
 #[derive(Drop)]
 pub struct OrderReader<'a> {
     words: &'a [u32],

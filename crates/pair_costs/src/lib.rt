@@ -2,7 +2,6 @@
 #![tactic(auto)]
 
 ghost use Rattle.std.specs.Prelude.{◌≡◌, ◌*◌, ◌<◌, length};
-ghost use Rattle.network.specs.Limits.{Sound};
 ghost use Rattle.network.specs.Networks.{link_list, node_count};
 ghost use Rattle.pair_costs.specs.Table.{CostBetween, CostTable, Tabulates};
 
@@ -12,10 +11,9 @@ use std::alloc::Global;
 
 const MOST_LINKS: usize = 128;
 
-// What the cheapest pair from `source` to `target` costs, or 0.
+// What the cheapest pair from `source` to `target` costs, or 0: a table for C has no `Option`.
 fn cost_between(network: &Network, source: u8, target: u8, workspace: &mut Workspace) -> u32
-    requires sound { Sound (node_count network.now) (link_list network.now) }
-    requires ends { (source < node_count network.now) × (target < node_count network.now) }
+    requires { (source < node_count network.now) × (target < node_count network.now) }
     ensures { CostBetween (link_list network.now) source target result }
 {
     let Workspace { words, entries } = workspace;
@@ -27,11 +25,10 @@ fn cost_between(network: &Network, source: u8, target: u8, workspace: &mut Works
 
 // Fills the table, for which there is exactly room.
 fn fill(network: &Network, costs: &mut [u32])
-    requires sound { Sound (node_count network.now) (link_list network.now) }
-    requires room { length costs.old ≡ node_count network.now * node_count network.now }
+    requires { length costs.old ≡ node_count network.now * node_count network.now }
     ensures { CostTable (node_count network.now) (link_list network.now) costs.new }
 {
-    let nodes = network.nodes() as usize;
+    let nodes = usize::from(network.nodes());
     let mut workspace = Workspace::new();
     // One loop over all places: of what is written through the rows of `chunks_exact_mut` a proof knows only the length.
     for (k, cost) in costs.iter_mut().enumerate() {
@@ -50,7 +47,7 @@ pub extern "C" fn pair_costs(heap: Global, words: &[u32], costs: &mut [u32]) -> 
     let Ok(network) = read(words, heap) else {
         return false;
     };
-    let nodes = network.nodes() as usize;
+    let nodes = usize::from(network.nodes());
     if costs.len() < nodes * nodes {
         return false;
     }

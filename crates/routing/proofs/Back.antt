@@ -60,9 +60,6 @@ module _ (net : Digraph) (states : List State) (pots pots' preds : List ℕ) (s 
       lift_short (reach_at xs (place xs v)) D y (S.relaxed (place xs u) e (place xs v) x y (omega arith) p.0 (λ z. absurd (omega arith)) q.0 at
       (subst (λ a. Leads net states pots e a (node_at xs (place xs v)) x y) (sym p.1) (subst (λ b. Leads net states pots e u b x y) (sym q.1) ld)))
 
-  state_one : (e : ℕ) → e < net.size → usable states e ≡ true → in_f states e ≡ false → state_at states e ≡ Free
-  state_one e l u f = is_free (state_at states e) u f
-
   pub raised_certified : Certified net (usable states) (in_f states) (pot pots')
   raised_certified = record {
     within = F.certified.within;
@@ -80,7 +77,7 @@ module _ (net : Digraph) (states : List State) (pots pots' preds : List ℕ) (s 
               omega (
                 arith,
                 early (place xs u) g.0 (omega arith) (at_place u lu).0 g.1,
-                relaxes e u v g.0 _ lu lv a g.1 (backs net states pots (length xs) F e u u g.0 l (is_used (state_at states e) f) refl refl),
+                relaxes e u v g.0 _ lu lv a g.1 (backs F g.0 l (is_used (state_at states e) f) refl refl),
               ))
           | inr b ↦ omega (arith, late (place xs u) b, lift_le (reach_at xs (place xs v)) D)
         ];
@@ -98,7 +95,7 @@ module _ (net : Digraph) (states : List State) (pots pots' preds : List ℕ) (s 
               omega (
                 arith,
                 early (place xs u) g.0 (omega arith) (at_place u lu).0 g.1,
-                relaxes e u v g.0 _ lu lv a g.1 (forth net states pots (length xs) F e u u g.0 l (state_one e l us f) refl refl),
+                relaxes e u v g.0 _ lu lv a g.1 (forth F g.0 l (is_free (state_at states e) us f) refl refl),
               ))
           | inr b ↦ omega (arith, late (place xs u) b, lift_le (reach_at xs (place xs v)) D)
         ];
@@ -146,8 +143,8 @@ module _ (net : Digraph) (states : List State) (pots pots' preds : List ℕ) (s 
   raised_low ls lt B b v l = omega (arith, raised_at v l, lift_le (reach_at xs (place xs v)) D, A.short, b v l, b s ls)
 
 -- ---- one step of the walk back
-module _ (net : Digraph) (was : List State) (pots preds : List ℕ) (s t : ℕ) (xs : List NodeKey) (len : ℕ) (Ch : Chain net was pots preds xs len s)
-    (states : List State) (v : ℕ) (W : Walking net was pots xs len t states v) (other : v ≡ s → ⊥) where
+module _ {net : Digraph} {was : List State} {pots preds : List ℕ} {s t : ℕ} {xs : List NodeKey} {len : ℕ} (Ch : Chain net was pots preds xs len s)
+    {states : List State} {v : ℕ} (W : Walking net was pots xs len t states v) (other : v ≡ s → ⊥) where
   here : (place xs v < length xs) × (node_at xs (place xs v) ≡ v)
   here = place_at xs v (Ch.once v W.node)
 

@@ -1,5 +1,6 @@
 -- The graph of a network's arcs is that of its links.
 use Rattle.std.proofs.Common.{◌≡◌, ℕ, zero, suc, Bool, List, [], ◌∷◌, map, length, get_or, Some, None, Ok, Option, refl, ap, ◌∙◌, subst, MatchOption}
+use Rattle.std.proofs.lemmas.List.{length-map}
 use mathlib.Core.Path.{fun_ext}
 use Rattle.graph.specs.declared.arc.Arc.{Arc}
 use Rattle.graph.specs.Arcs.{blank as no_arc}
@@ -20,13 +21,9 @@ arc_at [] e = refl
 arc_at (x ∷ links) zero = refl
 arc_at (x ∷ links) (suc e) = arc_at links e
 
-as_many : (links : List Link) → length (map arc_of links) ≡ length links
-as_many [] = refl
-as_many (x ∷ links) = ap suc (as_many links)
-
 of_links : (links : List Link) → arc_graph (map arc_of links) ≡ link_graph links
 of_links links = λ i. record {
-  size = as_many links i;
+  size = length-map links arc_of i;
   tail = fun_ext (λ e. ap (λ a. a.tail) (arc_at links e)) i;
   head = fun_ext (λ e. ap (λ a. a.head) (arc_at links e)) i;
   weight = fun_ext (λ e. ap (λ a. a.weight) (arc_at links e)) i;
@@ -36,7 +33,7 @@ pub graph_same : (links : List Link) (arcs : List Arc) → arcs ≡ map arc_of l
 graph_same links arcs e = ap arc_graph e ∙ of_links links
 
 pub count_same : (links : List Link) (arcs : List Arc) → arcs ≡ map arc_of links → length arcs ≡ length links
-count_same links arcs e = ap length e ∙ as_many links
+count_same links arcs e = ap length e ∙ length-map links arc_of
 
 pub found_answers : (net : Network) (U : ℕ → Bool) (s t words entries : ℕ) (g : Digraph) (r : Option Pair) →
     refusal (node_count net) (length (link_list net)) s t words entries ≡ None → g ≡ link_graph (link_list net) →

@@ -1,10 +1,11 @@
 -- Where entries are.
 use Rattle.std.proofs.Common.{◌≡◌, ℕ, zero, suc, ◌+◌, ◌<◌, ◌≤◌, cond, eqb, List, [], ◌∷◌, length, get_or, take, set, sum_by, sym, refl, ap, ◌∙◌, subst, inl, inr, le_of_suc-le-suc, not-suc-le-zero, arith}
+use Rattle.std.proofs.lemmas.List.{get_or_default}
 use Rattle.std.proofs.lemmas.List.Sums.{sum_by-cons, sum_by-take-drop, sum_by-set}
 use Rattle.std.proofs.lemmas.List.Sorted.{sum_by-IsPermutation}
 use Rattle.std.proofs.lemmas.Bool.{eq-eqb, ne_eqb, cases_eq, cases_lt, cond-true, cond-false}
 use Rattle.heap.specs.Least.{Moved}
-use Rattle.heap.proofs.Moves.{each_moved, rest_at, any_default}
+use Rattle.heap.proofs.Moves.{each_moved, rest_at}
 use Rattle.routing.specs.declared.key.NodeKey.{NodeKey}
 use Rattle.routing.specs.Entries.{blank, node_at, mark, entries_of, place}
 
@@ -96,7 +97,7 @@ in_order (x ∷ xs) a v f l m =
 
 -- ---- what holds of each entry
 pub below_moved : (P : NodeKey → Type 0) (n : ℕ) (xs ys : List NodeKey) → n ≤ length xs → Moved n xs ys → ((k : ℕ) → k < n → P (get_or xs k blank)) → (k : ℕ) → k < n → P (get_or ys k blank)
-below_moved P n xs ys le m f k l = each_moved P n xs ys le m (λ i d h. subst P (any_default xs i blank d (omega arith)) (f i h)) k blank l
+below_moved P n xs ys le m f k l = each_moved P n xs ys le m (λ i d h. subst P (get_or_default xs i blank d (omega arith)) (f i h)) k blank l
 
 pub all_moved : (P : NodeKey → Type 0) (n : ℕ) (xs ys : List NodeKey) → n ≤ length xs → Moved n xs ys → ((k : ℕ) → k < length xs → P (get_or xs k blank)) → (k : ℕ) → k < length ys → P (get_or ys k blank)
 all_moved P n xs ys le m f k l =

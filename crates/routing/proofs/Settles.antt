@@ -2,8 +2,9 @@
 use Rattle.std.proofs.Common.{◌≡◌, ℕ, suc, ◌+◌, ◌-◌, ◌*◌, ◌<◌, ◌≤◌, Bool, true, false, cond, eqb, ltb, ◌⊎◌, List, length, get_or, set, sym, refl, ap, ◌∙◌, subst, inl, inr, arith, length-set}
 use Rattle.std.proofs.lemmas.List.{get_or-set_same, get_or-set_other}
 use Rattle.std.proofs.lemmas.Bool.{both_ways, eq-eqb, ne_eqb, lt-ltb, le-ltb, ltb-true, cases_eq, cases_lt, cond-true, cond-false}
-use Rattle.heap.specs.Least.{Moved, Least}
+use Rattle.heap.specs.Least.{Moved}
 use Rattle.heap.proofs.Moves.{rest_at}
+use Rattle.heap.specs.Calls.{Popped}
 use Rattle.routing.specs.Orders.{key_cmp, NoFarther}
 use Rattle.routing.specs.declared.key.NodeKey.{NodeKey}
 use Rattle.routing.specs.declared.key.Reach.{Reach}
@@ -58,12 +59,16 @@ is_used Chosen u = refl
 pub not_both : (a : State) → a ≡ Free → a ≡ Chosen → ⊥
 not_both a p q = both_ways (is_chosen a) (ap is_chosen p) (ap is_chosen q)
 
--- ---- residual arcs
-module _ (net : Digraph) (states : List State) (pots : List ℕ) where
-  pub leads_within : (e u v x y : ℕ) → Leads net states pots e u v x y → e < net.size
-  leads_within e u v x y (inl f) = f.within
-  leads_within e u v x y (inr b) = b.within
+-- an entry that is y away
+abbrev pub key : ℕ → ℕ → NodeKey
+key v y = record { reach = At y; node = v }
 
+-- a node that no entry behind len has: also when those are kept
+pub missed_kept : (xs ys : List NodeKey) (len t : ℕ) → Kept xs ys len → length ys ≡ length xs → Missed xs len t → Missed ys len t
+missed_kept xs ys len t K e M k l kn q = M k l (omega arith) (sym (ap (λ z. z.node) (K k l)) ∙ q)
+
+-- ---- residual arcs
+module _ {net : Digraph} {states : List State} {pots : List ℕ} where
   pub leads_later : (e u v x y : ℕ) → Certified net (usable states) (in_f states) (pot pots) → Leads net states pots e u v x y → x ≤ y
   leads_later e u v x y C (inl f) =
       omega (arith, f.sum, C.free e f.within (usable_one states e f.state) (not_used states e f.state), ap (pot pots) f.from, ap (pot pots) f.to)
@@ -195,9 +200,6 @@ module _ (net : Digraph) (states : List State) (pots : List ℕ) where
   }
 
   -- ---- 4. an entry of the first len comes nearer
-  abbrev pub key : ℕ → ℕ → NodeKey
-  key v y = record { reach = At y; node = v }
-
   module _ (preds : List ℕ) (s : ℕ) (xs : List NodeKey) (len : ℕ) (done : ℕ → Bool) (i v x y e : ℕ) (S : Settled net states pots preds s xs len done)
       (F : Fit net states pots (length xs)) (below : i < len) (inside : len < length xs) (room : length preds ≡ length xs)
       (node : node_at xs i ≡ v) (here : reach_at xs len ≡ At x) (ld : Leads net states pots e (node_at xs len) v x y)
@@ -313,14 +315,14 @@ module _ (net : Digraph) (states : List State) (pots : List ℕ) where
             (subst (λ r. NoFarther r (At z)) (sym here) (leads_later e (node_at xs len) (node_at xs k) x z C d))
       ]
 
-  pub offered : (preds preds' : List ℕ) (s : ℕ) (xs ys : List NodeKey) (len : ℕ) (done : ℕ → Bool) (e v x y : ℕ) → Settled net states pots preds s xs len done →
+  pub offered : {preds preds' : List ℕ} {s : ℕ} {xs ys : List NodeKey} {len : ℕ} {done : ℕ → Bool} {e v x y : ℕ} → Settled net states pots preds s xs len done →
       Fit net states pots (length xs) → len < length xs → length preds ≡ length xs → reach_at xs len ≡ At x →
       Leads net states pots e (node_at xs len) v x y → Offered xs preds len v y e ys preds' →
       Settled net states pots preds' s ys len (more done e)
-  offered preds preds' s xs ys len done e v x y S F inside room here ld (inl p) =
+  offered {preds} {preds'} {s} {xs} {ys} {len} {done} {e} {v} {x} {y} S F inside room here ld (inl p) =
       subst (λ (q : List ℕ). Settled net states pots q s ys len (more done e)) (sym p.linked) (subst (λ (q : List NodeKey). Settled net states pots preds s q len (more done e)) (sym p.entries)
       (skips preds s xs len done e x S here (near_all preds s xs len done e v x y S F.certified inside here ld p.near)))
-  offered preds preds' s xs ys len done e v x y S F inside room here ld (inr p) =
+  offered {preds} {preds'} {s} {xs} {ys} {len} {done} {e} {v} {x} {y} S F inside room here ld (inr p) =
       let below = p.below in
       let i = p.i in
       let zs : List NodeKey = set xs i (key v y) in
@@ -334,25 +336,19 @@ module _ (net : Digraph) (states : List State) (pots : List ℕ) where
       (shuffled (set preds v e) s zs ys len (more done e) (skips (set preds v e) s zs len done e x W here' N) p.moved)
 
   -- ---- 6. one arc
-  pub stands_offered : (preds preds' : List ℕ) (xs ys : List NodeKey) (len v x w y e : ℕ) → Stands xs len v x → Offered xs preds len w y e ys preds' → Stands ys len v x
-  stands_offered preds preds' xs ys len v x w y e s (inl p) = subst (λ (q : List NodeKey). Stands q len v x) (sym p.entries) s
-  stands_offered preds preds' xs ys len v x w y e s (inr p) =
-      let below = p.below in
-      let r : get_or ys len blank ≡ get_or xs len blank = rest_at len (set xs p.i (key w y)) ys p.moved len blank (omega arith) ∙ get_or-set_other xs p.i len (key w y) blank (omega arith) in
-      record { at = ap (λ z. z.reach) r ∙ s.at; of = ap (λ z. z.node) r ∙ s.of }
-
-  module _ (n : ℕ) (F : Fit net states pots n) (e u v x : ℕ) (within : e < net.size) where
-    pub forth_room : state_at states e ≡ Free → pot pots (net.head e) ≤ net.weight e + pot pots (net.tail e)
+  module _ {n : ℕ} (F : Fit net states pots n) {e : ℕ} (within : e < net.size) where
+    forth_room : state_at states e ≡ Free → pot pots (net.head e) ≤ net.weight e + pot pots (net.tail e)
     forth_room q = F.certified.free e within (usable_one states e q) (not_used states e q)
 
-    pub back_room : state_at states e ≡ Chosen → net.weight e + pot pots (net.tail e) ≤ pot pots (net.head e)
+    back_room : state_at states e ≡ Chosen → net.weight e + pot pots (net.tail e) ≤ pot pots (net.head e)
     back_room q = F.certified.used e within (in_used states e q)
 
+  module _ {n : ℕ} (F : Fit net states pots n) {e u v : ℕ} (x : ℕ) (within : e < net.size) where
     pub forth : state_at states e ≡ Free → net.tail e ≡ v → u ≡ v → Leads net states pots e u (net.head e) x (x + (net.weight e + pot pots (net.tail e) - pot pots (net.head e)))
-    forth q p h = inl (record { within = within; state = q; from = p ∙ sym h; to = refl; sum = omega (arith, forth_room q, ap (pot pots) (p ∙ sym h)) })
+    forth q p h = inl (record { within = within; state = q; from = p ∙ sym h; to = refl; sum = omega (arith, forth_room F within q, ap (pot pots) (p ∙ sym h)) })
 
     pub backs : state_at states e ≡ Chosen → net.head e ≡ v → u ≡ v → Leads net states pots e u (net.tail e) x (x + (pot pots (net.head e) - pot pots (net.tail e) - net.weight e))
-    backs q p h = inr (record { within = within; state = q; from = p ∙ sym h; to = refl; sum = omega (arith, back_room q, ap (pot pots) (p ∙ sym h)) })
+    backs q p h = inr (record { within = within; state = q; from = p ∙ sym h; to = refl; sum = omega (arith, back_room F within q, ap (pot pots) (p ∙ sym h)) })
 
     pub forth_not : state_at states e ≡ Free → (net.tail e ≡ v → ⊥) → u ≡ v → (w y : ℕ) → Leads net states pots e u w x y → ⊥
     forth_not q d h w y (inl f) = d (f.from ∙ h)
@@ -362,13 +358,14 @@ module _ (net : Digraph) (states : List State) (pots : List ℕ) where
     back_not q d h w y (inl f) = not_both (state_at states e) f.state q
     back_not q d h w y (inr b) = d (b.from ∙ h)
 
+  module _ {n : ℕ} (F : Fit net states pots n) {e u : ℕ} (x : ℕ) (within : e < net.size) where
     pub out_not : (state_at states e ≡ Free → ⊥) → (state_at states e ≡ Chosen → ⊥) → (w y : ℕ) → Leads net states pots e u w x y → ⊥
     out_not a b w y (inl f) = a f.state
     out_not a b w y (inr g) = b g.state
 
-  pub passes : (preds : List ℕ) (s : ℕ) (xs : List NodeKey) (len : ℕ) (done : ℕ → Bool) (e v x : ℕ) → Settled net states pots preds s xs len done → Stands xs len v x →
+  pub passes : {preds : List ℕ} {s : ℕ} {xs : List NodeKey} {len : ℕ} {done : ℕ → Bool} {e v x : ℕ} → Settled net states pots preds s xs len done → Stands xs len v x →
       ((w y : ℕ) → Leads net states pots e (node_at xs len) w x y → ⊥) → Settled net states pots preds s xs len (more done e)
-  passes preds s xs len done e v x S h none =
+  passes {preds} {s} {xs} {len} {done} {e} {v} {x} S h none =
       skips preds s xs len done e x S h.at (λ k y l d. absurd (none (node_at xs k) y d))
 
   -- the distance of the entry at len, with room for one arc more
@@ -377,59 +374,22 @@ module _ (net : Digraph) (states : List State) (pots : List ℕ) where
   short preds s xs len done v x S F ls l h =
       omega (arith, S.close len x (omega arith) l h.at, ap (pot pots) h.of, F.low s ls, F.small)
 
-  pub kept_offered : (preds preds' : List ℕ) (xs ys : List NodeKey) (len w y e : ℕ) → Offered xs preds len w y e ys preds' → Kept xs ys len
-  kept_offered preds preds' xs ys len w y e (inl p) = λ k l. ap (λ (q : List NodeKey). get_or q k blank) p.entries
-  kept_offered preds preds' xs ys len w y e (inr p) = λ k l.
-      let below = p.below in
-      rest_at len (set xs p.i (key w y)) ys p.moved k blank l ∙ get_or-set_other xs p.i k (key w y) blank (omega arith)
+  -- ---- 7. the nearest entry leaves the heap
+  module _ {preds : List ℕ} {s : ℕ} {xs ys : List NodeKey} {len : ℕ} {r : NodeKey} (S : Settled net states pots preds s xs len (λ _. true))
+      (P : Popped key_cmp xs len r ys) where
+    m : Moved len xs ys
+    m = P.moved
 
-  -- ---- 7. the start: each node has its entry, and s alone is reached
-  module _ (s : ℕ) (zs : List NodeKey) (within : s < length zs) (fresh : (k : ℕ) → k < length zs → get_or zs k blank ≡ record { reach = NotReached; node = k }) where
-    abbrev ws : List NodeKey
-    ws = set zs s (key s 0)
+    is : get_or ys (len - 1) blank ≡ r
+    is = P.behind blank
 
-    long_s : length ws ≡ length zs
-    long_s = length-set zs s (key s 0)
-
-    each_s : (P : NodeKey → Type 0) (k : ℕ) → k < length ws → (k ≡ s → P (key s 0)) → ((k ≡ s → ⊥) → P (record { reach = NotReached; node = k })) → P (get_or ws k blank)
-    each_s P k l f g = elim (cases_eq k s) [
-      | inl q ↦ subst P (sym (ap (λ a. get_or ws a blank) q ∙ get_or-set_same zs s (key s 0) blank within)) (f q)
-      | inr d ↦ subst P (sym (get_or-set_other zs s k (key s 0) blank d ∙ fresh k (omega (arith, long_s)))) (g d)
-    ]
-
-    unreached : (x : ℕ) → NotReached ≡ At x → ⊥
-    unreached x q = let z : ◌≡◌ {A = ℕ} 0 1 = cc in omega arith
-
-    pub started : (preds : List ℕ) (done : ℕ → Bool) → Settled net states pots preds s ws (length zs) done
-    started preds done =
-        let same = long_s in
-        record {
-          fits = omega arith;
-          nodes = λ k l. each_s (λ z. z.node < length ws) k l (λ q. omega arith) (λ d. omega arith);
-          once = λ v l. entries_set v s zs (key s 0) within (ap (λ z. z.node) (fresh s within))
-              ∙ in_order zs 0 v (λ k l. ap (λ z. z.node) (fresh k l) ∙ omega arith) (omega arith) (omega arith);
-          start = λ k l. each_s (λ z. z.node ≡ s → z.reach ≡ At 0) k l (λ _ _. refl) (λ d q. absurd (d q));
-          order = λ i k le lk kn. absurd (omega arith);
-          finished = λ k lk kn. absurd (omega arith);
-          relaxed = λ j e k x y lj jn dn kn at ld. absurd (omega arith);
-          waiting = λ k y kl. each_s (λ z. (z.node ≡ s → ⊥) → z.reach ≡ At y → Came net states pots preds ws (length zs) z.node y) k (omega arith)
-              (λ q ns at. absurd (ns refl)) (λ d ns at. absurd (unreached y at));
-          ranked = λ k y lk kn ns at. absurd (omega arith);
-          near = λ k y kl. each_s (λ z. z.reach ≡ At y → y + pot pots z.node ≤ pot pots s + 65535 * (length ws - length zs)) k (omega arith)
-              (λ q at. let w : 0 ≡ y = cc in omega arith) (λ d at. absurd (unreached y at));
-          close = λ k y lk kn at. absurd (omega arith);
-        }
-
-  -- ---- 8. the nearest entry leaves the heap
-  module _ (preds : List ℕ) (s : ℕ) (xs ys : List NodeKey) (len : ℕ) (r : NodeKey) (S : Settled net states pots preds s xs len (λ _. true)) (some : 0 < len)
-      (m : Moved len xs ys) (is : get_or ys (len - 1) blank ≡ r) (least : Least key_cmp r xs len) where
     first : (i : ℕ) → i < len → NoFarther r.reach (reach_at ys i)
-    first = below_moved (λ z. NoFarther r.reach z.reach) len xs ys S.fits m (λ i l. no_farther r (get_or xs i blank) (least i blank l))
+    first = below_moved (λ z. NoFarther r.reach z.reach) len xs ys S.fits m (λ i l. no_farther r (get_or xs i blank) (P.top.least i blank l))
 
     pub popped : (x : ℕ) → r.reach ≡ At x → Settled net states pots preds s ys (len - 1) (λ _. false) × Stands ys (len - 1) r.node x
     popped x at =
         let q : reach_at ys (len - 1) ≡ r.reach = ap (λ z. z.reach) is in (
-          finishes preds s ys len (len - 1) x (omega arith) (shuffled preds s xs ys len (λ _. true) S m) (q ∙ at) (λ i l. subst (λ a. NoFarther a (reach_at ys i)) (sym q) (first i l)),
+          finishes preds s ys len (len - 1) x (omega (arith, P.top.some)) (shuffled preds s xs ys len (λ _. true) S m) (q ∙ at) (λ i l. subst (λ a. NoFarther a (reach_at ys i)) (sym q) (first i l)),
           record { at = q ∙ at; of = ap (λ z. z.node) is },
         )
 
@@ -446,17 +406,11 @@ module _ (net : Digraph) (states : List State) (pots : List ℕ) where
       λ k l kn q. M k l (omega (arith, m.len)) (sym (ap (λ z. z.node) (rest_at len xs ys m k blank l)) ∙ q),
     )
 
-  pub missed_kept : (xs ys : List NodeKey) (len t : ℕ) → Kept xs ys len → length ys ≡ length xs → Missed xs len t → Missed ys len t
-  missed_kept xs ys len t K e M k l kn q = M k l (omega arith) (sym (ap (λ z. z.node) (K k l)) ∙ q)
-
-  -- ---- 9. nothing more is reached
-  module _ (preds : List ℕ) (s t : ℕ) (xs : List NodeKey) (len : ℕ) (S : Settled net states pots preds s xs len (λ _. true)) (F : Fit net states pots (length xs))
+  -- ---- 8. nothing more is reached
+  module _ {preds : List ℕ} {s t : ℕ} {xs : List NodeKey} {len : ℕ} (S : Settled net states pots preds s xs len (λ _. true)) (F : Fit net states pots (length xs))
       (ls : s < length xs) (lt : t < length xs) (none : (i : ℕ) → i < len → NoFarther NotReached (reach_at xs i)) (M : Missed xs len t) where
     abbrev seen : ℕ → Bool
     seen v = ltb len (suc (place xs v))
-
-    at_place : (v : ℕ) → v < length xs → (place xs v < length xs) × (node_at xs (place xs v) ≡ v)
-    at_place v l = place_at xs v (S.once v l)
 
     is_seen : (v : ℕ) → len ≤ place xs v → seen v ≡ true
     is_seen v l = lt-ltb len (suc (place xs v)) (omega arith)
@@ -474,13 +428,10 @@ module _ (net : Digraph) (states : List State) (pots : List ℕ) where
         stuck NotReached NotReached n h (inl w) = w
         stuck NotReached NotReached n h (inr w) = let q = w.1 in let z : ◌≡◌ {A = ℕ} 0 1 = cc in omega arith
 
-    state_one : (e : ℕ) → e < net.size → usable states e ≡ true → in_f states e ≡ false → state_at states e ≡ Free
-    state_one e l u f = is_free (state_at states e) u f
-
     goes : (e u v y x : ℕ) → len ≤ place xs u → u < length xs → v < length xs → reach_at xs (place xs u) ≡ At x → Leads net states pots e u v x y → seen v ≡ true
     goes e u v y x l lu lv at ld =
-        let pu = at_place u lu in
-        let pv = at_place v lv in
+        let pu = place_at xs u (S.once u lu) in
+        let pv = place_at xs v (S.once v lv) in
         is_seen v (reached (place xs v) (At y)
         (S.relaxed (place xs u) e (place xs v) x y l pu.0 (λ _. refl) pv.0 at
         (subst (λ a. Leads net states pots e a (node_at xs (place xs v)) x y) (sym pu.1) (subst (λ b. Leads net states pots e u b x y) (sym pv.1) ld)))
@@ -490,27 +441,27 @@ module _ (net : Digraph) (states : List State) (pots : List ℕ) where
     severed = (
       seen,
       record {
-        start = is_seen s (reached (place xs s) (At 0) (far_eq (reach_at xs (place xs s)) (At 0) (S.start (place xs s) (at_place s ls).0 (at_place s ls).1)) (inr (0, refl)));
+        start = is_seen s (reached (place xs s) (At 0) (far_eq (reach_at xs (place xs s)) (At 0) (S.start (place xs s) (place_at xs s (S.once s ls)).0 (place_at xs s (S.once s ls)).1)) (inr (0, refl)));
         end = elim (cases_lt (place xs t) len) [
           | inl a ↦ le-ltb len (suc (place xs t)) (omega arith)
-          | inr b ↦ absurd (M (place xs t) b (at_place t lt).0 (at_place t lt).1)
+          | inr b ↦ absurd (M (place xs t) b (place_at xs t (S.once t lt)).0 (place_at xs t (S.once t lt)).1)
         ];
         within = F.certified.within;
         out = λ e l u f h.
             let p = seen_is (net.tail e) h in
-            let g = S.finished (place xs (net.tail e)) p (at_place (net.tail e) (F.tails e l)).0 in
-            goes e (net.tail e) (net.head e) _ g.0 p (F.tails e l) (F.heads e l) g.1 (forth (length xs) F e (net.tail e) (net.tail e) g.0 l (state_one e l u f) refl refl);
+            let g = S.finished (place xs (net.tail e)) p (place_at xs (net.tail e) (S.once (net.tail e) (F.tails e l))).0 in
+            goes e (net.tail e) (net.head e) _ g.0 p (F.tails e l) (F.heads e l) g.1 (forth F g.0 l (is_free (state_at states e) u f) refl refl);
         back = λ e l f h.
             let p = seen_is (net.head e) h in
-            let g = S.finished (place xs (net.head e)) p (at_place (net.head e) (F.heads e l)).0 in
-            goes e (net.head e) (net.tail e) _ g.0 p (F.heads e l) (F.tails e l) g.1 (backs (length xs) F e (net.head e) (net.head e) g.0 l (is_used (state_at states e) f) refl refl);
+            let g = S.finished (place xs (net.head e)) p (place_at xs (net.head e) (S.once (net.head e) (F.heads e l))).0 in
+            goes e (net.head e) (net.tail e) _ g.0 p (F.heads e l) (F.tails e l) g.1 (backs F g.0 l (is_used (state_at states e) f) refl refl);
       },
     )
 
-  -- ---- 10. t is finished
-  pub arrived : (preds : List ℕ) (s t v : ℕ) (xs : List NodeKey) (len far : ℕ) → Settled net states pots preds s xs len (λ _. false) → Stands xs len v far → v ≡ t →
+  -- ---- 9. t is finished
+  pub arrived : {preds : List ℕ} {s t v : ℕ} {xs : List NodeKey} {len far : ℕ} → Settled net states pots preds s xs len (λ _. false) → Stands xs len v far → v ≡ t →
       Fit net states pots (length xs) → s < length xs → len < length xs → Arrived net states pots preds s t xs len far
-  arrived preds s t v xs len far S h q F ls l =
+  arrived {preds} {s} {t} {v} {xs} {len} {far} S h q F ls l =
       let h' : Stands xs len t far = record { at = h.at; of = h.of ∙ q } in
       record {
         inside = l;
@@ -519,14 +470,14 @@ module _ (net : Digraph) (states : List State) (pots : List ℕ) where
         short = omega (arith, S.close len far (omega arith) l h.at, ap (pot pots) h'.of, F.small);
       }
 
-  -- ---- 11. all arcs of the entry at len
-  pub covers_none : (preds : List ℕ) (s : ℕ) (xs : List NodeKey) (len : ℕ) (arcs : List ℕ) (done : ℕ → Bool) → Settled net states pots preds s xs len done → Covered net states pots preds s xs len arcs 0 done
-  covers_none preds s xs len arcs done S = record { now_done = done; settled = S; keeps = λ i h. h; covers = λ p l. absurd (omega arith) }
+  -- ---- 10. all arcs of the entry at len
+  pub covers_none : {preds : List ℕ} {s : ℕ} {xs : List NodeKey} {len : ℕ} {arcs : List ℕ} {done : ℕ → Bool} → Settled net states pots preds s xs len done → Covered net states pots preds s xs len arcs 0 done
+  covers_none {preds} {s} {xs} {len} {arcs} {done} S = record { now_done = done; settled = S; keeps = λ i h. h; covers = λ p l. absurd (omega arith) }
 
-  pub covers_more : (preds preds' : List ℕ) (s : ℕ) (xs ys : List NodeKey) (len len' : ℕ) (arcs : List ℕ) (k : ℕ) (done : ℕ → Bool) (C : Covered net states pots preds s xs len arcs k done) →
+  pub covers_more : {preds preds' : List ℕ} {s : ℕ} {xs ys : List NodeKey} {len len' : ℕ} {arcs : List ℕ} {k : ℕ} {done : ℕ → Bool} (C : Covered net states pots preds s xs len arcs k done) →
       (Settled net states pots preds s xs len C.now_done → Settled net states pots preds' s ys len' (more C.now_done (get_or arcs k 0))) →
       Covered net states pots preds' s ys len' arcs (k + 1) done
-  covers_more preds preds' s xs ys len len' arcs k done C f = record {
+  covers_more {preds} {preds'} {s} {xs} {ys} {len} {len'} {arcs} {k} {done} C f = record {
     now_done = more C.now_done (get_or arcs k 0);
     settled = f C.settled;
     keeps = λ i h. kept i (C.keeps i h);
@@ -543,12 +494,12 @@ module _ (net : Digraph) (states : List State) (pots : List ℕ) where
           go true h = refl
           go false h = h
 
-  pub spreads : (preds : List ℕ) (s : ℕ) (xs : List NodeKey) (len v x : ℕ) (done : ℕ → Bool) (leaving entering : List ℕ) → Settled net states pots preds s xs len done → Stands xs len v x →
+  pub spreads : {preds : List ℕ} {s : ℕ} {xs : List NodeKey} {len v x : ℕ} {done : ℕ → Bool} {leaving entering : List ℕ} → Settled net states pots preds s xs len done → Stands xs len v x →
       ListsArcs net.tail net.size v leaving → ListsArcs net.head net.size v entering →
       ((p : ℕ) → p < length leaving → done (get_or leaving p 0) ≡ true) →
       ((p : ℕ) → p < length entering → done (get_or entering p 0) ≡ true) →
       Settled net states pots preds s xs len (λ _. true)
-  spreads preds s xs len v x done leaving entering S h L E f g = record {
+  spreads {preds} {s} {xs} {len} {v} {x} {done} {leaving} {entering} S h L E f g = record {
     fits = S.fits;
     nodes = S.nodes;
     once = S.once;
@@ -565,3 +516,40 @@ module _ (net : Digraph) (states : List State) (pots : List ℕ) where
       all : (e k j x' y : ℕ) → j ≡ len → Leads net states pots e (node_at xs j) (node_at xs k) x' y → done e ≡ true
       all e k j x' y q (inl d) = let l = L.complete e d.within (d.from ∙ ap (node_at xs) q ∙ h.of) in ap done (sym l.2) ∙ f l.0 l.1
       all e k j x' y q (inr d) = let l = E.complete e d.within (d.from ∙ ap (node_at xs) q ∙ h.of) in ap done (sym l.2) ∙ g l.0 l.1
+
+-- ---- the start: each node has its entry, and s alone is reached
+module _ (s : ℕ) (zs : List NodeKey) (within : s < length zs) (fresh : (k : ℕ) → k < length zs → get_or zs k blank ≡ record { reach = NotReached; node = k }) where
+  abbrev ws : List NodeKey
+  ws = set zs s (key s 0)
+
+  long_s : length ws ≡ length zs
+  long_s = length-set zs s (key s 0)
+
+  each_s : (P : NodeKey → Type 0) (k : ℕ) → k < length ws → (k ≡ s → P (key s 0)) → ((k ≡ s → ⊥) → P (record { reach = NotReached; node = k })) → P (get_or ws k blank)
+  each_s P k l f g = elim (cases_eq k s) [
+    | inl q ↦ subst P (sym (ap (λ a. get_or ws a blank) q ∙ get_or-set_same zs s (key s 0) blank within)) (f q)
+    | inr d ↦ subst P (sym (get_or-set_other zs s k (key s 0) blank d ∙ fresh k (omega (arith, long_s)))) (g d)
+  ]
+
+  unreached : (x : ℕ) → NotReached ≡ At x → ⊥
+  unreached x q = let z : ◌≡◌ {A = ℕ} 0 1 = cc in omega arith
+
+  pub started : (net : Digraph) (states : List State) (pots preds : List ℕ) (done : ℕ → Bool) → Settled net states pots preds s ws (length zs) done
+  started net states pots preds done =
+      let same = long_s in
+      record {
+        fits = omega arith;
+        nodes = λ k l. each_s (λ z. z.node < length ws) k l (λ q. omega arith) (λ d. omega arith);
+        once = λ v l. entries_set v s zs (key s 0) within (ap (λ z. z.node) (fresh s within))
+            ∙ in_order zs 0 v (λ k l. ap (λ z. z.node) (fresh k l) ∙ omega arith) (omega arith) (omega arith);
+        start = λ k l. each_s (λ z. z.node ≡ s → z.reach ≡ At 0) k l (λ _ _. refl) (λ d q. absurd (d q));
+        order = λ i k le lk kn. absurd (omega arith);
+        finished = λ k lk kn. absurd (omega arith);
+        relaxed = λ j e k x y lj jn dn kn at ld. absurd (omega arith);
+        waiting = λ k y kl. each_s (λ z. (z.node ≡ s → ⊥) → z.reach ≡ At y → Came net states pots preds ws (length zs) z.node y) k (omega arith)
+            (λ q ns at. absurd (ns refl)) (λ d ns at. absurd (unreached y at));
+        ranked = λ k y lk kn ns at. absurd (omega arith);
+        near = λ k y kl. each_s (λ z. z.reach ≡ At y → y + pot pots z.node ≤ pot pots s + 65535 * (length ws - length zs)) k (omega arith)
+            (λ q at. let w : 0 ≡ y = cc in omega arith) (λ d at. absurd (unreached y at));
+        close = λ k y lk kn at. absurd (omega arith);
+      }

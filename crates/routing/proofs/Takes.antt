@@ -26,23 +26,6 @@ module _ (net : Digraph) (was : List State) (n s t : ℕ) (N : Ready net was n) 
   none_is : (e : ℕ) → in_f was e ≡ true → ⊥
   none_is e h = let f = none_in e in let z : ◌≡◌ {A = ℕ} 0 1 = cc in omega arith
 
-  pub first_fit : (pots : List ℕ) → length pots ≡ n → ((v : ℕ) → pot pots v ≡ 0) → Fit net was pots n
-  first_fit pots l z = record {
-    small = N.small;
-    links = N.links;
-    stated = N.stated;
-    noded = l;
-    tails = N.tails;
-    heads = N.heads;
-    costs = N.costs;
-    low = λ v l. omega (arith, z v);
-    certified = record {
-      within = λ e l h. absurd (none_is e h);
-      used = λ e l h. absurd (none_is e h);
-      free = λ e l u h. omega (arith, z (net.head e));
-    };
-  }
-
   first_carries : Carries net (in_f was) [] []
   first_carries = carries_same net (λ _. false) (in_f was) [] [] none_in (carries_none net)
 

@@ -1,5 +1,4 @@
-// Dijkstra's search over the residual arcs of a set of chosen arcs: a free arc is followed forwards at its weight reduced
-// by the potentials of its ends, a chosen arc backwards. A node is finished when it leaves the heap.
+// Dijkstra's search over the residual arcs of a flow. A node is finished when it leaves the heap.
 ghost use Rattle.std.specs.Prelude.{◌≡◌, ℕ, ◌+◌, ◌-◌, ◌<◌, ◌≤◌, Bool, true, false, List, length, MatchOption, ◌≢◌, slice_index};
 ghost use Rattle.graph.specs.Graphs.{node_count};
 ghost use Rattle.paths.specs.Pairs.{Digraph};
@@ -9,10 +8,10 @@ ghost use Rattle.routing.specs.Fronts.{Covers, Onward, Reaches, Searching, Settl
 ghost use Rattle.routing.specs.Settle.{Arrived, Fit, Offered, Settled, Severed, more};
 ghost use Rattle.routing.specs.Views.{net_of};
 
+use crate::flow::Flow;
 use crate::key::{NodeKey, Reach};
 use crate::residual::Residual;
 use crate::state::State;
-use crate::task::Task;
 use heap::Heap;
 
 // A node that is finished, and its distance from the source.
@@ -52,7 +51,7 @@ fn offer(heap: &mut Heap<NodeKey>, preds: &mut [u32], node: u8, far: u32, arc: u
         node,
     };
     if let Ok(()) = heap.lower(i, nearer) {
-        preds[node as usize] = arc;
+        preds[usize::from(node)] = arc;
     }
 }
 
@@ -71,8 +70,8 @@ impl Residual<'_> {
             → Settles self.entry preds.new heap.new.items.now heap.new.len s (more done e) }
     {
         let arc = self.graph.arcs()[e];
-        let tail = self.pots[arc.tail as usize];
-        let head = self.pots[arc.head as usize];
+        let tail = self.pots[usize::from(arc.tail)];
+        let head = self.pots[usize::from(arc.head)];
         match self.states[e] {
             State::LeftOut => {}
             State::Free => {
@@ -112,7 +111,7 @@ impl Residual<'_> {
             → Covers self.entry preds.new heap.new.items.now heap.new.len s arcs.now (length arcs.now) done }
     {
         for e in arcs {
-            self.relax(heap, preds, at, *e as usize);
+            self.relax(heap, preds, at, usize::from(*e));
         }
     }
 
@@ -144,39 +143,36 @@ fn begin(entries: &mut [NodeKey], source: u8) -> Heap<'_, NodeKey>
             node: node as u8,
         };
     }
-    entries[source as usize].reach = Reach::At(0);
+    entries[usize::from(source)].reach = Reach::At(0);
     Heap::of(entries)
 }
 
-// Finishes the nearest nodes, from the source on, until the target is finished or no other node is reached.
-pub(crate) fn explore(
-    task: Task,
-    states: &[State],
-    pots: &[u32],
-    preds: &mut [u32],
-    entries: &mut [NodeKey],
-) -> Option<Arrival>
-    requires fit { Fit (net_of task.graph.now) states.now pots.now (node_count task.graph.now) }
-    requires sizes { (length preds.old ≡ node_count task.graph.now) × (length entries.old ≡ node_count task.graph.now) }
-    ensures { MatchOption result (Severed (net_of task.entry.graph.now) states.now task.entry.source task.entry.target)
-        (λ a. Arrived (net_of task.entry.graph.now) states.now pots.now preds.new task.entry.source task.entry.target entries.new a.rest a.far) }
-{
-    let residual = Residual {
-        graph: task.graph,
-        states,
-        pots,
-    };
-    let mut heap = begin(entries, task.source);
-    while let Some(key) = heap.pop() {
-        let Reach::At(far) = key.reach else {
-            return None;
+impl Flow<'_> {
+    // Finishes the nearest nodes over the residual arcs, from the source on, until the target is finished or no other node is
+    // reached.
+    pub(crate) fn explore(&self, preds: &mut [u32], entries: &mut [NodeKey]) -> Option<Arrival>
+        requires fit { Fit (net_of self.now.task.graph.now) self.now.states self.now.pots.now (node_count self.now.task.graph.now) }
+        requires sizes { (length preds.old ≡ node_count self.now.task.graph.now) × (length entries.old ≡ node_count self.now.task.graph.now) }
+        ensures { MatchOption result (Severed (net_of self.now.task.graph.now) self.now.states self.now.task.source self.now.task.target)
+            (λ a. Arrived (net_of self.now.task.graph.now) self.now.states self.now.pots.now preds.new self.now.task.source self.now.task.target entries.new a.rest a.far) }
+    {
+        let residual = Residual {
+            graph: self.task.graph,
+            states: &self.states,
+            pots: self.pots,
         };
-        if key.node == task.target {
-            let rest = heap.len();
-            return Some(Arrival { rest, far });
+        let mut heap = begin(entries, self.task.source);
+        while let Some(key) = heap.pop() {
+            let Reach::At(far) = key.reach else {
+                return None;
+            };
+            if key.node == self.task.target {
+                let rest = heap.len();
+                return Some(Arrival { rest, far });
+            }
+            let node = key.node;
+            residual.spread(&mut heap, preds, Finished { node, far });
         }
-        let node = key.node;
-        residual.spread(&mut heap, preds, Finished { node, far });
+        None
     }
-    None
 }

@@ -1,4 +1,6 @@
-// A flow: the arcs that are chosen, and potentials that certify that they are chosen as cheaply as can be.
+// A flow: the arcs that are chosen, and potentials that certify that they are chosen as cheaply as can be. `explore` looks
+// for a way for one unit more, `rounds` takes it, and `extract` takes paths out. Of each step that changes a flow a clause
+// says that the task is kept: through a `&mut` any field may change.
 ghost use Rattle.graph.specs.Graphs.{node_count};
 ghost use Rattle.std.specs.Prelude.{◌≡◌, length};
 

@@ -6,11 +6,10 @@ ghost use Rattle.paths.specs.Flow.{Certified};
 ghost use Rattle.paths.specs.Pairs.{NoPair};
 ghost use Rattle.routing.specs.Back.{Chain, CutOff, Raised, Rounded, Walked, lift};
 ghost use Rattle.routing.specs.Entries.{entries_of, in_f, node_at, pot, usable};
-ghost use Rattle.routing.specs.Settle.{Arrived, Fit, Severed};
+ghost use Rattle.routing.specs.Settle.{Fit};
 ghost use Rattle.routing.specs.Taking.{Doubled, Ready};
 ghost use Rattle.routing.specs.Views.{net_of};
 
-use crate::explore::{Arrival, explore};
 use crate::flow::Flow;
 use crate::key::{NodeKey, Reach};
 use crate::state::State;
@@ -35,21 +34,13 @@ fn raise(entries: &[NodeKey], pots: &mut [u32], far: u32)
     ensures { Raised entries.now pots.old pots.new far }
 {
     for entry in entries {
-        pots[entry.node as usize] += entry.reach.rise(far);
+        pots[usize::from(entry.node)] += entry.reach.rise(far);
     }
 }
 
+// `preds` and `entries` are no struct of their own: its ghost fields would have to say how long they are, and there is no
+// proof of a call that reads a slice through a field of a struct with ghost fields.
 impl Flow<'_> {
-    // Finishes the nearest nodes over the residual arcs, until the target is finished or no other node is reached.
-    fn explore(&self, preds: &mut [u32], entries: &mut [NodeKey]) -> Option<Arrival>
-        requires fit { Fit (net_of self.now.task.graph.now) self.now.states self.now.pots.now (node_count self.now.task.graph.now) }
-        requires sizes { (length preds.old ≡ node_count self.now.task.graph.now) × (length entries.old ≡ node_count self.now.task.graph.now) }
-        ensures { MatchOption result (Severed (net_of self.now.task.graph.now) self.now.states self.now.task.source self.now.task.target)
-            (λ a. Arrived (net_of self.now.task.graph.now) self.now.states self.now.pots.now preds.new self.now.task.source self.now.task.target entries.new a.rest a.far) }
-    {
-        explore(self.task, &self.states, self.pots, preds, entries)
-    }
-
     // Flips the arcs by which the target was reached, from the target back to the source. It comes to an end since each node
     // was reached from one that was finished before it: the entries say in which order, with the target's own at `rest`.
     fn walk_back(&mut self, preds: &[u32], entries: &[NodeKey], rest: usize)
@@ -65,7 +56,7 @@ impl Flow<'_> {
         let mut node = self.task.target;
         let states = &mut self.states;
         while node != source {
-            let e = preds[node as usize] as usize;
+            let e = preds[usize::from(node)] as usize;
             if let State::Chosen = states[e] {
                 states[e] = State::Free;
                 node = arcs[e].head;

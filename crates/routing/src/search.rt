@@ -66,7 +66,8 @@ fn rank(one: Track, two: Track) -> Pair
     }
 }
 
-// The cheapest pair over the usable arcs, if there is a pair. Of the words it uses two for each node.
+// The cheapest pair over the usable arcs, if there is a pair. Of the words it uses two for each node: its potential, and the
+// arc by which it was reached. They are slices of words, and no lists of a type of their own, since callers lend them.
 fn best_pair(
     task: Task,
     usable: &[bool],
@@ -100,7 +101,7 @@ pub enum SearchFault {
     ShortBuffer,
 }
 
-// Whether there can be a search with so many words and entries.
+// Whether there can be a search with so many words and entries. There is no `Task` before it: that is of two nodes apart.
 fn check(
     graph: &Graph,
     source: u8,
@@ -117,7 +118,7 @@ fn check(
     if source == target {
         return Err(SearchFault::SameNode);
     }
-    let nodes = graph.nodes() as usize;
+    let nodes = usize::from(graph.nodes());
     let links = graph.arcs().len();
     if words < 6 * nodes + 2 * links || entries < nodes {
         return Err(SearchFault::ShortBuffer);
@@ -142,7 +143,7 @@ pub fn find_pair(
 {
     let graph = network.graph();
     check(graph, source, target, words.len(), entries.len())?;
-    let nodes = graph.nodes() as usize;
+    let nodes = usize::from(graph.nodes());
     let task = Task {
         graph,
         source,

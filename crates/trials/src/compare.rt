@@ -18,7 +18,8 @@ pub(crate) struct Trial<'a> {
 }
 
 impl Trial<'_> {
-    // What the pair that is found costs, if one is found.
+    // What the pair that is found costs, if one is found. The table of `pair_costs` has 0 where this has `None`, so neither
+    // can stand for the other.
     fn found_cost(&self, source: u8, target: u8, room: &mut Workspace) -> Option<u32>
         ensures { PairCost self.now.network.now (allowed self.now.usable.now) source target result }
     {

@@ -39,8 +39,8 @@ struct Shape {
 fn random_link(shape: Shape, generator: &mut Generator) -> Link
     ensures { Drawn shape.nodes shape.low shape.high result }
 {
-    let tail = generator.between(0, shape.nodes as u16 - 1) as u8;
-    let other = generator.between(0, shape.nodes as u16 - 2) as u8;
+    let tail = generator.between(0, u16::from(shape.nodes) - 1) as u8;
+    let other = generator.between(0, u16::from(shape.nodes) - 2) as u8;
     let head = if other < tail { other } else { other + 1 };
     link(tail, head, generator.between(shape.low, shape.high))
 }

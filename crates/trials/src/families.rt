@@ -8,7 +8,7 @@ use crate::draft::{Kind, make_network};
 use crate::generator::Generator;
 use crate::tally::Tally;
 use std::alloc::{AllocError, Global};
-use std::fmt;
+use std::{array, fmt};
 
 const MOST_LINKS: usize = 128;
 
@@ -47,7 +47,7 @@ impl fmt::Display for Family {
     }
 }
 
-// One of the four kinds.
+// One of the four kinds. The numbers are only drawn: no enum is made from a number by a derive.
 fn any_kind(generator: &mut Generator) -> Kind {
     match generator.between(0, 3) {
         0 => Kind::Scattered,
@@ -59,11 +59,7 @@ fn any_kind(generator: &mut Generator) -> Kind {
 
 // Which links are usable: three of four, by chance.
 fn any_links(generator: &mut Generator) -> [bool; MOST_LINKS] {
-    let mut usable = [false; MOST_LINKS];
-    for link in usable.iter_mut() {
-        *link = generator.between(0, 3) > 0;
-    }
-    usable
+    array::from_fn(|_| generator.between(0, 3) > 0)
 }
 
 impl Family {

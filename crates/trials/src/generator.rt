@@ -34,7 +34,7 @@ impl Generator {
         ensures least { low ≤ result }
         ensures most { result ≤ max low high }
     {
-        let choices = high.saturating_sub(low) as u32 + 1;
+        let choices = u32::from(high.saturating_sub(low)) + 1;
         low + (self.next() % choices) as u16
     }
 }

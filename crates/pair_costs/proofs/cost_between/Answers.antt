@@ -8,4 +8,4 @@ pub returns : goal.returns
 returns c =
     let cost : c.map_or.result ≡ option_map_or (λ p. p.cost) c.in-Ok.found 0 = grind (arith, common_steps, c.map_or.ensures) in
     found_costs c.args.network.now c.args.source c.args.target (length c.args.workspace.now.words) (length c.args.workspace.now.entries)
-    c.requires.sound c.requires.ends.0 c.requires.ends.1 c.in-Ok.found c.in-Ok.ensures.answer c.map_or.result cost
+    c.args.network.now.sound c.requires.0 c.requires.1 c.in-Ok.found c.in-Ok.ensures.answer c.map_or.result cost

@@ -1,4 +1,4 @@
-use Rattle.std.proofs.Common.{◌≡◌, ◌-◌, ◌*◌, ◌≤◌, length, ap, arith}
+use Rattle.std.proofs.Common.{◌≡◌, ◌-◌, ◌*◌, ◌≤◌, length, ap, ◌∙◌, arith}
 use Rattle.std.proofs.lemmas.List.{length-take}
 use Rattle.std.proofs.lemmas.Slice.{drop-put_mid}
 use Rattle.network.specs.Networks.{link_list, node_count}
@@ -9,9 +9,9 @@ pub returns : goal.returns
 returns c =
     let net = c.in-Ok.network in
     let n = node_count net in
-    let places = c.nodes-nodes.result * c.nodes-nodes.result - 0 in
+    let places = c.from-nodes.result * c.from-nodes.result - 0 in
     let costs = c.args.costs.now in
-    let square : places ≡ n * n = omega (arith, ap (λ x. x * x) c.nodes-nodes.ensures.value) in
+    let square : places ≡ n * n = omega (arith, ap (λ x. x * x) (c.from-nodes.ensures ∙ c.nodes.ensures.value)) in
     let room : n * n ≤ length costs = omega (arith, c.if-costs-nodes.false, square) in
     let long : length c.fill.new.costs ≡ places = omega (arith, c.fill.auto.costs, length-take places costs, room, square) in (
       n,

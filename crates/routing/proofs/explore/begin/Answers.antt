@@ -22,8 +22,8 @@ loop-node-preserved c k l =
 pub returns-clause-settled : goal.returns-clause-settled
 returns-clause-settled c net states pots preds done =
     let zs = c.loop-node.entries in
-    let s = c.args.source in
-    let room : s < length zs = omega arith in
+    let s = c.from.result in
+    let room : s < length zs = omega (arith, c.from.ensures) in
     let fresh : (k : ℕ) → k < length zs → get_or zs k blank ≡ record { reach = NotReached; node = k } = λ k l. c.loop-node.invariant k (omega arith) in
     let reached : ℕ → NodeKey = λ v. record { reach = At 0; node = v } in
     let ys = c.of.result.items.now in
@@ -31,5 +31,6 @@ returns-clause-settled c net states pots preds done =
     let full : c.of.result.len ≡ length zs = c.of.ensures.full ∙ length-set zs s (reached (get_or zs s blank).node) in
     let moved : Moved (length zs) (set zs s (reached s)) ys =
     subst (λ n. Moved n (set zs s (reached s)) ys) (length-set zs s (reached s)) (subst (λ (w : List NodeKey). Moved (length w) w ys) same c.of.ensures.moved) in
-    subst (λ n. Settled net states pots preds s ys n done) (sym full)
-    (shuffled net states pots preds s (set zs s (reached s)) ys (length zs) done (started net states pots s zs room fresh preds done) moved)
+    rw (← c.from.ensures)
+    (subst (λ n. Settled net states pots preds s ys n done) (sym full)
+    (shuffled preds s (set zs s (reached s)) ys (length zs) done (started s zs room fresh net states pots preds done) moved))

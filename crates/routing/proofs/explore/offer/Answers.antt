@@ -1,4 +1,4 @@
-use Rattle.std.proofs.Common.{◌≡◌, false, get_or, set, length-set, sym, refl, subst, inl, inr, ◌∙◌, arith}
+use Rattle.std.proofs.Common.{◌≡◌, false, get_or, set, length-set, sym, ap, refl, subst, inl, inr, ◌∙◌, arith}
 use Rattle.std.proofs.lemmas.List.{get_or-set_other}
 use Rattle.heap.specs.Least.{before}
 use Rattle.heap.proofs.Moves.{rest_at}
@@ -26,7 +26,7 @@ returns-in-Ok-clause-offered c =
       node = at.1;
       nearer = nearer key (get_or xs i blank) (L.lower blank);
       moved = L.moved;
-      linked = refl;
+      linked = ap (λ v. set c.args.preds.now v c.args.arc) c.from.ensures;
     })
 
 pub returns-in-Ok-clause-onward : goal.returns-in-Ok-clause-onward

@@ -17,7 +17,8 @@ loop-entry-preserved c =
     let long : length ps ≡ length was = omega arith in
     let lk : k < length xs = omega arith in
     let within : u < length was = c.requires.nodes k lk in
-    let other : (j : ℕ) → j < length xs → (j ≡ k → ⊥) → pot (set ps u y) (node_at xs j) ≡ pot ps (node_at xs j) =
+    rw c.from.ensures
+    (let other : (j : ℕ) → j < length xs → (j ≡ k → ⊥) → pot (set ps u y) (node_at xs j) ≡ pot ps (node_at xs j) =
     λ j l d. get_or-set_other ps u (node_at xs j) y 0 (λ q. d (one_place xs u j k (c.requires.once u within) l lk q refl)) in (
       λ j l. elim (cases_eq j k) [
         | inl q ↦ subst (λ i. pot (set ps u y) (node_at xs i) ≡ pot was (node_at xs i) + lift (reach_at xs i) c.args.far) (sym q)
@@ -25,4 +26,4 @@ loop-entry-preserved c =
         | inr d ↦ (other j (omega arith) d ∙ c.loop-entry.invariant.0 j (omega arith))
       ],
       λ j l m. other j m (omega arith) ∙ c.loop-entry.invariant.1 j (omega arith) m,
-    )
+    ))

@@ -1,5 +1,4 @@
 use Rattle.std.proofs.Common.{refl, ◌∙◌, arith}
-use Rattle.routing.specs.Views.{net_of}
 use Rattle.routing.proofs.Fronts.{onward_none, onward_more}
 use Rattle.routing.proofs.Settles.{covers_none, covers_more}
 use Rattle.routing.proofs.residual.Residual.relax_each.Goals as goal
@@ -9,7 +8,7 @@ loop-e-init c =
     let h = c.args.heap.now in (
       c.requires.here,
       onward_none h.items.now h.len,
-      λ s done S. covers_none (net_of c.args.self.graph.now) c.args.self.states.now c.args.self.pots.now c.args.preds.now s h.items.now h.len c.args.arcs.now done S,
+      λ s done S. covers_none S,
       refl,
     )
 
@@ -28,7 +27,6 @@ loop-e-preserved c =
       onward_more h.items.now h.len f.items.now f.len g.items.now g.len c.loop-e.invariant.1 c.relax.ensures.onward,
       λ s done S.
           let C = c.loop-e.invariant.2 s done S in
-          covers_more (net_of c.args.self.graph.now) c.args.self.states.now c.args.self.pots.now c.loop-e.preds c.relax.new.preds s f.items.now g.items.now f.len g.len
-          c.args.arcs.now c.loop-e.e-index done C (c.relax.ensures.settles s C.now_done),
+          covers_more C (let h = c.relax.ensures.settles s C.now_done in rw c.from.ensures at h),
       c.relax.ensures.same ∙ c.loop-e.invariant.3,
     )

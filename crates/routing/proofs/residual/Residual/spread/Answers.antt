@@ -1,5 +1,4 @@
 use Rattle.std.proofs.Common.{false, get_or, arith}
-use Rattle.routing.specs.Views.{net_of}
 use Rattle.routing.proofs.Settles.{spreads}
 use Rattle.routing.proofs.residual.Residual.spread.Goals as goal
 
@@ -14,6 +13,5 @@ returns-clause-settles c s S =
     let h = c.relax_each-2.new.heap in
     let C = c.relax_each.ensures.covers s (λ _. false) S in
     let D = c.relax_each-2.ensures.covers s C.now_done C.settled in
-    spreads (net_of c.args.self.graph.now) c.args.self.states.now c.args.self.pots.now c.relax_each-2.new.preds s h.items.now h.len c.args.at.node c.args.at.far D.now_done
-    c.leaving.result.now c.entering.result.now D.settled c.relax_each-2.ensures.here.stands c.leaving.ensures.lists c.entering.ensures.lists
+    spreads D.settled c.relax_each-2.ensures.here.stands c.leaving.ensures.lists c.entering.ensures.lists
     (λ p l. D.keeps (get_or c.leaving.result.now p 0) (C.covers p l)) D.covers
