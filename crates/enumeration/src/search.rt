@@ -6,8 +6,8 @@ ghost use Rattle.enumeration.specs.Walks.{Completed, Limited, completed_cost};
 ghost use Rattle.routing.specs.Answer.{link_graph};
 ghost use Rattle.routing.specs.Found.{allowed};
 
-use crate::trail::{MOST_LINKS, Trail};
-use network::{Link, Network};
+use crate::trail::Trail;
+use network::{Link, MOST_LINKS, Network};
 
 // The paths that are looked for: from a source to a target, over some links.
 #[derive(Clone, Copy)]

@@ -2,12 +2,9 @@
 ghost use Rattle.std.specs.Prelude.{◌≡◌, ◌<◌};
 ghost use Rattle.enumeration.specs.Walks.{begun, followed, leads_on};
 
-use network::Link;
+use network::{Link, MOST_LINKS, MOST_NODES};
 
-pub(crate) const MOST_NODES: usize = 32;
-
-pub(crate) const MOST_LINKS: usize = 128;
-
+// Its flags are by the numbers of links and nodes, in arrays: it is copied for each link that may follow.
 #[derive(Clone, Copy)]
 pub(crate) struct Trail {
     // The links that no path has taken.

@@ -1,5 +1,6 @@
 // The two steps that restore the order of a heap: one element rises or sinks to its place.
-// Their loops are `while`s, since they go from child to parent or back and count no index.
+// Their loops are `while`s, since they go from child to parent or back and count no index. That of `heapify` counts, since
+// each of its steps has to see the elements before.
 ghost use Rattle.std.specs.Prelude.{◌≡◌, ℕ, ◌+◌, ◌*◌, ◌<◌, ◌≤◌, length};
 ghost use Rattle.heap.specs.Least.{IsHeap, Moved};
 ghost use Rattle.heap.specs.Sifted.{LeastChild, Rises, Sinks, Tells};

@@ -2,7 +2,7 @@ ghost use Rattle.std.specs.Prelude.{◌≡◌, ◌==◌, ◌*◌, ◌^◌};
 ghost use Rattle.network.specs.Format.{kind};
 ghost use Rattle.network.specs.Kinds.{number_of_kind};
 
-// What a word says, by its bits 31–28.
+// What a word of a network says, by its bits 31–28.
 #[derive(Clone, Copy)]
 pub(crate) enum Kind {
     // How many nodes and links there are.

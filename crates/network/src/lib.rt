@@ -15,6 +15,7 @@ mod writer;
 
 pub use fault::{Fault, LinksFault};
 pub use laws::format_stands;
+pub use limits::{MOST_LINKS, MOST_NODES};
 pub use link::Link;
 pub use network::Network;
 pub use reader::{extent, read};

@@ -4,11 +4,17 @@ ghost use Rattle.network.specs.Limits.{Sound, SoundLink};
 
 use crate::Link;
 
+// The most nodes that a network has.
+pub const MOST_NODES: usize = 32;
+
+// The most links that a network has.
+pub const MOST_LINKS: usize = 128;
+
 // Whether a network may have so many nodes and so many links.
 pub(crate) fn may_have(nodes: usize, links: usize) -> bool
     ensures { IsTrue result ↔ ((2 ≤ nodes) × (nodes ≤ 32) × (1 ≤ links) × (links ≤ 128)) }
 {
-    (2..=32).contains(&nodes) && (1..=128).contains(&links)
+    (2..=MOST_NODES).contains(&nodes) && (1..=MOST_LINKS).contains(&links)
 }
 
 // Whether a network of so many nodes may have the link.

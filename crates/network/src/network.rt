@@ -9,7 +9,7 @@ use graph::Graph;
 
 mod parts;
 
-// 2 to 32 nodes and 1 to 128 links, both numbered from 0, and the links as arcs of a graph.
+// 2 to 32 nodes and 1 to 128 links, both numbered from 0, and the links as arcs of a graph, which knows no capacity.
 #[derive(Drop)]
 pub struct Network {
     nodes: u8,

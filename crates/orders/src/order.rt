@@ -25,7 +25,7 @@ impl Unreadable {
     }
 }
 
-// What a word of an order says, by its bits 31–28. Order words are read here alone.
+// What a word of an order says, by its bits 31–28. It is no kind of a network word: the two formats share no kind.
 enum Kind {
     // The nodes and the amount of a reserve.
     Reserve = 5,

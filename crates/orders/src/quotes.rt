@@ -6,7 +6,7 @@ ghost use Rattle.routing.specs.Found.{allowed};
 
 use crate::order::Reserve;
 use crate::refusal::Refusal;
-use network::{Link, Network};
+use network::{Link, MOST_LINKS, Network};
 use routing::{NodeKey, Pair, find_pair};
 use std::array;
 
@@ -37,7 +37,7 @@ fn check(nodes: u8, order: Reserve, serial: u32) -> Result<(), Refusal>
 }
 
 // Which links have room for an amount.
-fn with_room(links: &[Link], amount: u16) -> [bool; 128]
+fn with_room(links: &[Link], amount: u16) -> [bool; MOST_LINKS]
     requires { length links.now ≤ 128 }
     ensures { (e : ℕ) → e < length links.now → allowed result e ≡ room_for links.now amount e }
 {

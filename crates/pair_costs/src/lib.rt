@@ -5,11 +5,9 @@ ghost use Rattle.std.specs.Prelude.{◌≡◌, ◌*◌, ◌<◌, length};
 ghost use Rattle.network.specs.Networks.{link_list, node_count};
 ghost use Rattle.pair_costs.specs.Table.{CostBetween, CostTable, Tabulates};
 
-use network::{Network, read};
+use network::{MOST_LINKS, Network, read};
 use routing::{Workspace, find_pair};
 use std::alloc::Global;
-
-const MOST_LINKS: usize = 128;
 
 // What the cheapest pair from `source` to `target` costs, or 0: a table for C has no `Option`.
 fn cost_between(network: &Network, source: u8, target: u8, workspace: &mut Workspace) -> u32

@@ -56,7 +56,7 @@ fn offer(heap: &mut Heap<NodeKey>, preds: &mut [u32], node: u8, far: u32, arc: u
 }
 
 // The heap and `preds` are no struct of their own: of a slice that such a struct holds through the heap it cannot be proved
-// what it holds when the search is over.
+// what it holds when the search is over. So each step says itself that the heap is over the same slice.
 impl Residual<'_> {
     // Offers the other end of the arc `e`, if it leads away from the node that was finished last.
     fn relax(self, heap: &mut Heap<NodeKey>, preds: &mut [u32], at: Finished, e: usize)

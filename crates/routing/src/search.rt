@@ -9,13 +9,13 @@ ghost use Rattle.routing.specs.Taking.{Marked};
 ghost use Rattle.routing.specs.Views.{net_of};
 
 use crate::extract::Track;
-use crate::flow::{Flow, MOST_ARCS};
+use crate::flow::Flow;
 use crate::key::NodeKey;
 use crate::path::Pair;
 use crate::state::State;
 use crate::task::Task;
 use graph::Graph;
-use network::Network;
+use network::{MOST_LINKS, Network};
 use std::array;
 
 // The state that the arc `e` begins with: it is free if it is usable.
@@ -29,7 +29,7 @@ fn first_state(usable: &[bool], e: usize) -> State
 }
 
 // The states that all arcs begin with.
-fn first_states(usable: &[bool]) -> [State; MOST_ARCS]
+fn first_states(usable: &[bool]) -> [State; MOST_LINKS]
     ensures long { length result ≡ 128 }
     ensures marked { Marked usable.now result }
 {

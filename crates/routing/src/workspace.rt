@@ -3,10 +3,9 @@ ghost use Rattle.routing.specs.Answer.{no_entry};
 ghost use Rattle.std.specs.Prelude.{◌≡◌, replicate};
 
 use crate::key::NodeKey;
+use network::{MOST_LINKS, MOST_NODES};
 
-const MOST_WORDS: usize = 448;
-
-const MOST_NODES: usize = 32;
+const MOST_WORDS: usize = 6 * MOST_NODES + 2 * MOST_LINKS;
 
 // Enough for a search in any network: 6 words a node and 2 a link, and an entry a node.
 #[derive(Drop)]

@@ -78,7 +78,8 @@ fn add_links(
     Ok(())
 }
 
-// The network of links within the limits. Only want of memory can keep it from being made.
+// The network of links within the limits. Only want of memory can keep it from being made: that is what the match shows, and
+// `map_err` would not.
 fn build(nodes: u8, links: Vec<Link>, heap: Global) -> Result<Network, AllocError>
     requires { Sound nodes links.items }
     ensures { IfOk result (λ net. (node_count net ≡ nodes) × (link_list net ≡ links.items)) }
@@ -143,38 +144,30 @@ pub(crate) fn make_network(
 ) -> Result<Network, AllocError>
     ensures { IfOk result (λ net. OfKind kind (node_count net) (link_list net)) }
 {
-    match kind {
-        Kind::Scattered => {
-            let shape = Shape {
-                nodes: generator.between(3, 6) as u8,
-                count: generator.between(6, 12),
-                low: 1,
-                high: 1000,
-            };
-            scatter(shape, generator, heap)
-        }
-        Kind::Ties => {
-            let shape = Shape {
-                nodes: generator.between(3, 6) as u8,
-                count: generator.between(6, 12),
-                low: 1,
-                high: 3,
-            };
-            scatter(shape, generator, heap)
-        }
-        Kind::Parallel => {
-            let shape = Shape {
-                nodes: generator.between(2, 3) as u8,
-                count: generator.between(6, 10),
-                low: 1,
-                high: 20,
-            };
-            scatter(shape, generator, heap)
-        }
+    let shape = match kind {
+        Kind::Scattered => Shape {
+            nodes: generator.between(3, 6) as u8,
+            count: generator.between(6, 12),
+            low: 1,
+            high: 1000,
+        },
+        Kind::Ties => Shape {
+            nodes: generator.between(3, 6) as u8,
+            count: generator.between(6, 12),
+            low: 1,
+            high: 3,
+        },
+        Kind::Parallel => Shape {
+            nodes: generator.between(2, 3) as u8,
+            count: generator.between(6, 10),
+            low: 1,
+            high: 20,
+        },
         Kind::Traps => {
             let nodes = generator.between(4, 6) as u8;
             let count = generator.between(0, 7);
-            set_trap(nodes, count, generator, heap)
+            return set_trap(nodes, count, generator, heap);
         }
-    }
+    };
+    scatter(shape, generator, heap)
 }

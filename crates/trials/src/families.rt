@@ -7,10 +7,9 @@ use crate::compare::Trial;
 use crate::draft::{Kind, make_network};
 use crate::generator::Generator;
 use crate::tally::Tally;
+use network::MOST_LINKS;
 use std::alloc::{AllocError, Global};
 use std::{array, fmt};
-
-const MOST_LINKS: usize = 128;
 
 const NETWORKS: u32 = 100;
 

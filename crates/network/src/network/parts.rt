@@ -25,6 +25,7 @@ impl Network {
         ensures { IfOk result (λ net. (node_count net ≡ nodes) × (link_list net ≡ links.items)) }
     {
         let arcs = arcs_of(&links, heap)?;
+        // No `map_err`: the match shows that links within the limits are never refused for them.
         match Graph::new(nodes, arcs, heap) {
             Ok(graph) => Ok(Network {
                 nodes,
