@@ -2,7 +2,7 @@
 // `x` comes before `y` where `x.cmp(&y)` is `Less`.
 #![tactic(auto)]
 
-ghost use Rattle.std.specs.Prelude.{◌≡◌, ◌+◌, ◌-◌, ◌<◌, ◌≤◌, length, take, is_some, is_ok, if◌then◌else◌, ◌==◌, MatchOption};
+ghost use Rattle.std.specs.Prelude.{◌≡◌, ◌+◌, ◌-◌, ◌≤◌, length, take, is_some, is_ok, if◌then◌else◌, ◌==◌};
 ghost use Rattle.heap.specs.Least.{IsHeap, IsHeap-prop, Moved};
 ghost use Rattle.heap.specs.Calls.{Lowers, Peeks, Pops, Pushes, TakesIn};
 
@@ -51,17 +51,6 @@ impl<'a, T: Ord + Copy> Heap<'a, T> {
         let len = items.len();
         heapify(items, 0, len);
         Heap { items, len }
-    }
-
-    // A heap of the first `len` of `items`; `None` if there are fewer. That a refusal leaves `items` as they are is promised
-    // by `take_in` alone: here the slice is lent on to the heap, and no clause at `None` on what it holds is proved.
-    pub fn of_first(items: &'a mut [T], len: usize) -> Option<Heap<'a, T>>
-        ensures { MatchOption result (length items.old < len)
-            (λ h. (h.len ≡ len) × (h.items.ghost_name ≡ items.entry.ghost_name) × Moved len items.old h.items.now) }
-    {
-        let mut heap = Heap::new(items);
-        heap.take_in(len).ok()?;
-        Some(heap)
     }
 
     // How many elements are in the heap.
@@ -181,7 +170,6 @@ mod tests {
     #[test]
     fn a_length_beyond_the_slice_is_refused(rt: HostRuntime) {
         let mut items = [1u8, 2];
-        assert!(rt; Heap::of_first(&mut items, 3).is_none());
         let mut heap = Heap::new(&mut items);
         assert_eq!(rt; heap.take_in(3), Err(Full));
         assert_eq!(rt; heap.peek(), None);
@@ -197,7 +185,8 @@ mod tests {
     #[test]
     fn the_first_items_become_a_heap(rt: HostRuntime) {
         let mut items = [9u8, 5, 7, 1];
-        let mut heap = Heap::of_first(&mut items, 3).expect(&rt, "there are four");
+        let mut heap = Heap::new(&mut items);
+        assert_eq!(rt; heap.take_in(3), Ok(()));
         assert_eq!(rt; heap.as_slice(), [5, 9, 7].as_slice());
         assert_eq!(rt; heap.take_in(1), Ok(()));
         assert_eq!(rt; heap.pop(), Some(1));
