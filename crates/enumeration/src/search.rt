@@ -29,14 +29,14 @@ fn lower(a: Option<u32>, b: Option<u32>) -> Option<u32>
 impl Search<'_> {
     // The least cost of leading the trail on to the target and of `more` paths from the source to the target, over free
     // links, each taken once.
-    fn least_cost(&self, trail: Trail, more: u8) -> Option<u32>
-        ensures { Least (Completed (link_graph self.now.links.now) self.now.source self.now.target more trail) (completed_cost (link_graph self.now.links.now)) result }
+    fn least_cost(&self, trail: &Trail, more: u8) -> Option<u32>
+        ensures { Least (Completed (link_graph self.now.links.now) self.now.source self.now.target more trail.now) (completed_cost (link_graph self.now.links.now)) result }
     {
         if trail.node == self.target {
             return if more == 0 {
                 Some(0)
             } else {
-                self.least_cost(Trail::begin(trail.free, self.source), more - 1)
+                self.least_cost(&Trail::begin(trail.free, self.source), more - 1)
             };
         }
         // A loop, since a closure that takes part in the recursion needs a contract and a measure of its own.
@@ -44,7 +44,9 @@ impl Search<'_> {
         for (e, link) in self.links.iter().enumerate() {
             if trail.leads_on(e, *link) {
                 let cost = u32::from(link.cost);
-                let rest = self.least_cost(trail.follow(e, *link), more);
+                let mut next = *trail;
+                next.follow(e, *link);
+                let rest = self.least_cost(&next, more);
                 best = lower(best, rest.map(|rest| cost + rest));
             }
         }
@@ -77,5 +79,5 @@ pub fn least_pair_cost(network: &Network, usable: &[bool], source: u8, target: u
         source,
         target,
     };
-    search.least_cost(Trail::begin(flags(usable), source), 1)
+    search.least_cost(&Trail::begin(flags(usable), source), 1)
 }

@@ -4,7 +4,7 @@ ghost use Rattle.enumeration.specs.Walks.{begun, followed, leads_on};
 
 use network::{Link, MOST_LINKS, MOST_NODES};
 
-// Its flags are by the numbers of links and nodes, in arrays: it is copied for each link that may follow.
+// Its flags are by the numbers of links and nodes, in arrays: it is lent, and copied once for each link that it follows.
 #[derive(Clone, Copy)]
 pub(crate) struct Trail {
     // The links that no path has taken.
@@ -26,22 +26,22 @@ impl Trail {
         Trail { free, seen, node }
     }
 
-    // Whether `link`, number `e`, leads on: it is free and starts at the last node, and its head is not seen.
+    // Whether `link`, number `e`, leads on: it is free and starts at the last node, and its head is not seen. By `&`, so that it
+    // is one test and not three: what each of them gives is as good as random.
     pub(crate) fn leads_on(&self, e: usize, link: Link) -> bool
         requires { (e < 128) × (link.head < 32) }
         ensures { result ≡ leads_on self.now e link.tail link.head }
     {
-        self.free[e] && link.tail == self.node && !self.seen[usize::from(link.head)]
+        self.free[e] & (link.tail == self.node) & !self.seen[usize::from(link.head)]
     }
 
-    // The trail once it has followed `link`, number `e`.
-    pub(crate) fn follow(mut self, e: usize, link: Link) -> Trail
+    // Follows `link`, number `e`.
+    pub(crate) fn follow(&mut self, e: usize, link: Link)
         requires { (e < 128) × (link.head < 32) }
-        ensures { result ≡ followed self e link.head }
+        ensures { self.new ≡ followed self.old e link.head }
     {
         self.free[e] = false;
         self.seen[usize::from(link.head)] = true;
         self.node = link.head;
-        self
     }
 }

@@ -63,11 +63,13 @@ impl Graph {
         ensures leaving { SortsBy (tail_of result.arcs.now) (length result.arcs.now) result.leaving result.nodes }
         ensures entering { SortsBy (head_of result.arcs.now) (length result.arcs.now) result.entering result.nodes }
     {
+        let leaving = self.leaving.sorted();
+        let entering = self.entering.sorted();
         View {
             nodes: self.nodes,
             arcs: &self.arcs,
-            leaving: self.leaving.sorted(),
-            entering: self.entering.sorted(),
+            leaving,
+            entering,
         }
     }
 }

@@ -1,3 +1,4 @@
 pub mod Least
 pub mod Calls
 pub mod Sifted
+pub mod Slices

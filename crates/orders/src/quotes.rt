@@ -8,7 +8,6 @@ use crate::order::Reserve;
 use crate::refusal::Refusal;
 use network::{Link, MOST_LINKS, Network};
 use routing::{NodeKey, Pair, find_pair};
-use std::array;
 
 const LONGEST_HOLD: u32 = 86_400;
 
@@ -36,12 +35,16 @@ fn check(nodes: u8, order: Reserve, serial: u32) -> Result<(), Refusal>
     Ok(())
 }
 
-// Which links have room for an amount.
+// Which links have room for an amount. A loop over the links that there are: `array::from_fn` would ask for all 128.
 fn with_room(links: &[Link], amount: u16) -> [bool; MOST_LINKS]
     requires { length links.now ≤ 128 }
     ensures { (e : ℕ) → e < length links.now → allowed result e ≡ room_for links.now amount e }
 {
-    array::from_fn(|e| links.get(e).is_some_and(|link| link.capacity >= amount))
+    let mut usable = [false; MOST_LINKS];
+    for (e, link) in links.iter().enumerate() {
+        usable[e] = link.capacity >= amount;
+    }
+    usable
 }
 
 // The best pair for an order over the links with room for its amount, where `serial` is the next one to give. Nothing is

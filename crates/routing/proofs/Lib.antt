@@ -6,4 +6,3 @@ pub mod Back
 pub mod Takes
 pub mod Answered
 pub mod Networks
-pub mod FromFn

@@ -143,8 +143,18 @@ fn begin(entries: &mut [NodeKey], source: u8) -> Heap<'_, NodeKey>
             node: node as u8,
         };
     }
-    entries[usize::from(source)].reach = Reach::At(0);
-    Heap::of(entries)
+    // Entries that are not reached, in the order of the nodes, are a heap as they stand: none has to be compared.
+    let len = entries.len();
+    let mut heap = Heap {
+        items: entries,
+        len,
+    };
+    let start = NodeKey {
+        reach: Reach::At(0),
+        node: source,
+    };
+    let _ = heap.lower(usize::from(source), start);
+    heap
 }
 
 impl Flow<'_> {

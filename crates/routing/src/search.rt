@@ -16,7 +16,6 @@ use crate::state::State;
 use crate::task::Task;
 use graph::Graph;
 use network::{MOST_LINKS, Network};
-use std::array;
 
 // The state that the arc `e` begins with: it is free if it is usable.
 fn first_state(usable: &[bool], e: usize) -> State
@@ -28,12 +27,16 @@ fn first_state(usable: &[bool], e: usize) -> State
     }
 }
 
-// The states that all arcs begin with.
+// The states that all arcs begin with. A loop over the flags that there are: `array::from_fn` would ask for all 128.
 fn first_states(usable: &[bool]) -> [State; MOST_LINKS]
     ensures long { length result ≡ 128 }
     ensures marked { Marked usable.now result }
 {
-    array::from_fn(|e| first_state(usable, e))
+    let mut states = [State::LeftOut; MOST_LINKS];
+    for e in 0..usable.len().min(MOST_LINKS) {
+        states[e] = first_state(usable, e);
+    }
+    states
 }
 
 impl Track {

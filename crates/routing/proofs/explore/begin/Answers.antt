@@ -1,36 +1,38 @@
-use Rattle.std.proofs.Common.{◌≡◌, ℕ, ◌<◌, List, length, get_or, set, sym, ap, ◌∙◌, subst, inl, inr, arith, length-set}
-use Rattle.std.proofs.lemmas.List.{get_or-set_same, get_or-set_other}
-use Rattle.std.proofs.lemmas.Bool.{cases_eq}
-use Rattle.heap.specs.Least.{Moved}
+use Rattle.std.proofs.Common.{◌≡◌, ℕ, ◌<◌, true, List, length, get_or, set, Result, Ok, Err, sym, ap, ◌∙◌, subst, arith}
+use Rattle.std.specs.Bool.{⊤}
+use Rattle.std.proofs.lemmas.Bool.{both_ways}
+use Rattle.heap.specs.Calls.{Lowered, Lowers}
+use Rattle.heap.specs.Least.{before}
+use Rattle.heap.specs.declared.LowerError.{LowerError}
+use Rattle.routing.specs.Orders.{key_cmp}
 use Rattle.routing.specs.declared.key.NodeKey.{NodeKey}
 use Rattle.routing.specs.declared.key.Reach.TheVariants.{At, NotReached}
 use Rattle.routing.specs.Entries.{blank}
 use Rattle.routing.specs.Settle.{Settled}
+use Rattle.routing.proofs.Ranks.{fresh_heap, not_lower, reached_first}
 use Rattle.routing.proofs.Settles.{started, shuffled}
 use Rattle.routing.proofs.explore.begin.Goals as goal
 
-pub loop-node-preserved : goal.loop-node-preserved
-loop-node-preserved c k l =
-    let xs = c.loop-node.entries in
-    let n = c.loop-node.node in
-    let x : ℕ → NodeKey = λ i. record { reach = NotReached; node = i } in
-    elim (cases_eq k n) [
-      | inl q ↦ (ap (λ i. get_or (set xs n (x n)) i blank) q ∙ get_or-set_same xs n (x n) blank (omega arith) ∙ ap x (sym q))
-      | inr d ↦ (get_or-set_other xs n k (x n) blank d ∙ c.loop-node.invariant k (omega arith))
-    ]
+-- "not reached" gives way to any distance
+lowered : (zs ys : List NodeKey) (s : ℕ) (r : Result ⊤ LowerError) (x : NodeKey) → s < length zs → before key_cmp x (get_or zs s blank) ≡ true →
+    Lowers key_cmp zs (length zs) s x r ys → Lowered key_cmp zs (length zs) s x ys
+lowered zs ys s (Ok u) x l first L = L
+lowered zs ys s (Err e) x l first N = absurd (both_ways _ (not_lower zs (length zs) s x e l N.0) first)
+
+pub invariant_of-heap : goal.invariant_of-heap
+invariant_of-heap c =
+    let zs = c.loop-node.entries in
+    record { within = omega arith; ordered = fresh_heap zs (λ k l. c.loop-node.invariant k (omega arith)) }
 
 pub returns-clause-settled : goal.returns-clause-settled
 returns-clause-settled c net states pots preds done =
     let zs = c.loop-node.entries in
-    let s = c.from.result in
-    let room : s < length zs = omega (arith, c.from.ensures) in
+    let ys = c.lower.new.self.items.now in
+    let s = c.args.source in
+    let room : s < length zs = omega arith in
     let fresh : (k : ℕ) → k < length zs → get_or zs k blank ≡ record { reach = NotReached; node = k } = λ k l. c.loop-node.invariant k (omega arith) in
-    let reached : ℕ → NodeKey = λ v. record { reach = At 0; node = v } in
-    let ys = c.of.result.items.now in
-    let same : set zs s (reached (get_or zs s blank).node) ≡ set zs s (reached s) = ap (λ v. set zs s (reached v)) (ap (λ z. z.node) (fresh s room)) in
-    let full : c.of.result.len ≡ length zs = c.of.ensures.full ∙ length-set zs s (reached (get_or zs s blank).node) in
-    let moved : Moved (length zs) (set zs s (reached s)) ys =
-    subst (λ n. Moved n (set zs s (reached s)) ys) (length-set zs s (reached s)) (subst (λ (w : List NodeKey). Moved (length w) w ys) same c.of.ensures.moved) in
-    rw (← c.from.ensures)
-    (subst (λ n. Settled net states pots preds s ys n done) (sym full)
-    (shuffled preds s (set zs s (reached s)) ys (length zs) done (started s zs room fresh net states pots preds done) moved))
+    let x : NodeKey = record { reach = At 0; node = s } in
+    let told = subst (λ i. Lowers key_cmp zs (length zs) i x c.lower.result ys) c.from.ensures c.lower.ensures.lowers in
+    let L = lowered zs ys s c.lower.result x room (ap (before key_cmp x) (fresh s room) ∙ reached_first s s 0) told in
+    subst (λ n. Settled net states pots preds s ys n done) (sym c.lower.ensures.len)
+    (shuffled preds s (set zs s x) ys (length zs) done (started s zs room fresh net states pots preds done) L.moved)

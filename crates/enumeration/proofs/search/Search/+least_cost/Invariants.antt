@@ -6,7 +6,7 @@ use Rattle.enumeration.proofs.Follow.{Before}
 use Rattle.enumeration.proofs.search.Search.+least_cost.Given as goal
 
 abbrev pub decreases-least_cost : goal.decreases-least_cost
-decreases-least_cost l = unseen l.trail.seen + 33 * l.more
+decreases-least_cost l = unseen l.trail.now.seen + 33 * l.more
 
 abbrev pub invariant-loop-e : goal.invariant-loop-e
 invariant-loop-e l =

@@ -8,10 +8,10 @@ pub returns-clause-leaving : goal.returns-clause-leaving
 returns-clause-leaving c =
     let g = c.args.self.now in
     let arcs = arc_list g in
-    rw (c.deref.ensures.value, c.sorted.ensures.first, c.sorted.ensures.order) (indexed_from_lists (tail_of arcs) (length arcs) g.nodes _ _ g.by_tail (λ e h. (g.sound e h).0))
+    rw (c.deref.ensures.value, c.sorted-leaving.ensures.first, c.sorted-leaving.ensures.order) (indexed_from_lists (tail_of arcs) (length arcs) g.nodes _ _ g.by_tail (λ e h. (g.sound e h).0))
 
 pub returns-clause-entering : goal.returns-clause-entering
 returns-clause-entering c =
     let g = c.args.self.now in
     let arcs = arc_list g in
-    rw (c.deref.ensures.value, c.sorted-2.ensures.first, c.sorted-2.ensures.order) (indexed_from_lists (head_of arcs) (length arcs) g.nodes _ _ g.by_head (λ e h. (g.sound e h).1))
+    rw (c.deref.ensures.value, c.sorted-entering.ensures.first, c.sorted-entering.ensures.order) (indexed_from_lists (head_of arcs) (length arcs) g.nodes _ _ g.by_head (λ e h. (g.sound e h).1))
