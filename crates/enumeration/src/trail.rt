@@ -26,8 +26,8 @@ impl Trail {
         Trail { free, seen, node }
     }
 
-    // Whether `link`, number `e`, leads on: it is free and starts at the last node, and its head is not seen. By `&`, so that it
-    // is one test and not three: what each of them gives is as good as random.
+    // Whether `link`, number `e`, leads on: it is free and starts at the last node, and its head is not seen. With `&`, so that
+    // it is one branch and not three, each as good as random.
     pub(crate) fn leads_on(&self, e: usize, link: Link) -> bool
         requires { (e < 128) × (link.head < 32) }
         ensures { result ≡ leads_on self.now e link.tail link.head }

@@ -1,10 +1,11 @@
 -- What each step of the heap keeps.
-use Rattle.std.proofs.Common.{◌≡◌, ℕ, zero, suc, ◌+◌, ◌-◌, ◌*◌, ◌/◌, ◌<◌, ◌≤◌, Bool, true, false, List, length, get_or, set, Ordering, refl, ap, ◌∙◌, ⊎_elim, arith, get_or-set_other, get_or-set_same}
+use Rattle.std.proofs.Common.{◌≡◌, ℕ, zero, suc, ◌+◌, ◌-◌, ◌*◌, ◌/◌, ◌<◌, ◌≤◌, Bool, true, false, List, [], ◌∷◌, length, get_or, set, take, slice_get, not-suc-le-zero, Ordering, refl, ap, ◌∙◌, ⊎_elim, arith, get_or-set_other, get_or-set_same}
 use Rattle.std.specs.Cmp.{IsTotalOrder}
 use Rattle.std.specs.List.{SwappedAt}
 use Rattle.std.proofs.HeapSift.{ranks}
 use Rattle.std.proofs.lemmas.Bool.{cases_eq}
 use Rattle.heap.specs.Least.{before, IsHeap, Least}
+use Rattle.heap.specs.Calls.{Peeks}
 use Rattle.heap.specs.Sifted.{MayRise, MaySink, Tells, LeastChild, Rises, Sinks}
 
 if_same : {C : Type 0} (a b : ℕ) → (a ≡ b → C) → ((a ≡ b → ⊥) → C) → C
@@ -92,6 +93,12 @@ module _ {X : Type 0} {R : X → X → Ordering} (o : IsTotalOrder R) where
 
   pub top_least : (xs : List X) (n : ℕ) (x : X) → ((d : X) → x ≡ get_or xs 0 d) → IsHeap R xs n → Least R x xs n
   top_least xs n x e h = λ k d l. alike refl (e d) (top xs n d h k k (omega arith) l)
+
+  -- `peek`
+  pub peeks : (xs : List X) (n : ℕ) → n ≤ length xs → IsHeap R xs n → Peeks R xs n (slice_get (take n xs) 0)
+  peeks xs zero le h = refl
+  peeks [] (suc n) le h = absurd (not-suc-le-zero le)
+  peeks (x ∷ xs) (suc n) le h = record { some = omega arith; first = λ d. refl; least = top_least (x ∷ xs) (suc n) x (λ d. refl) h }
 
   -- zs is the heap xs with one more element, another element at i, or another first
   rises_at_end : (xs zs : List X) (n : ℕ) → ((k : ℕ) (d : X) → k < n → get_or zs k d ≡ get_or xs k d) → IsHeap R xs n → MayRise R zs n (n + 1)

@@ -1,6 +1,7 @@
 // A binary heap in the first elements of a slice, which gives the least element first.
 // `x` comes before `y` where `x.cmp(&y)` is `Less`. The functions of a slice and a length are for entries that lie in a slice
-// between calls; they take any slice, keep the order of one that is a heap, and refuse a length beyond it. `Heap` goes by them.
+// between calls; they take any slice, keep the order of one that is a heap, and refuse a length beyond it. The methods of `Heap`
+// take the same steps and do not call them: a search by methods that did took a tenth longer.
 #![tactic(auto)]
 
 ghost use Rattle.std.specs.Prelude.{◌≡◌, ◌+◌, ◌-◌, ◌≤◌, length, take, is_some, is_ok, if◌then◌else◌, ◌==◌};
@@ -49,8 +50,6 @@ pub fn push<T: Ord + Copy>(items: &mut [T], len: usize, x: T) -> bool
 }
 
 // Puts `x` in the place of the element at `i`; false if that is not among the first `len`, or `x` does not come before it.
-// It is inlined, since a search calls it for most of its arcs.
-#[inline(always)]
 pub fn lower<T: Ord + Copy>(items: &mut [T], len: usize, i: usize, x: T) -> bool
     ensures { LowersIn T.cmp items.old len i x result items.new }
 {
@@ -78,8 +77,8 @@ pub enum LowerError {
     NotBefore,
 }
 
-// The first `len` of `items` are the heap, and the rest is its room. The fields are open: who can prove that elements are in
-// heap order as they lie may build the heap of them, and none is compared.
+// The first `len` of `items` are the heap, and the rest is its room. The fields are open: whoever can prove that elements are
+// in heap order as they lie may build the heap of them, and none is compared.
 #[derive(Drop)]
 pub struct Heap<'a, T: Ord> {
     pub items: &'a mut [T],
@@ -133,7 +132,7 @@ impl<'a, T: Ord + Copy> Heap<'a, T> {
     pub fn peek(&self) -> Option<T>
         ensures { Peeks T.cmp self.now.items.now self.now.len result }
     {
-        peek(self.items, self.len)
+        self.as_slice().first().copied()
     }
 
     // Takes the least element out, and leaves it just behind the others; `None` if the heap is empty.
@@ -142,8 +141,12 @@ impl<'a, T: Ord + Copy> Heap<'a, T> {
         ensures len { self.new.len ≡ (if is_some result then self.old.len - 1 else self.old.len) }
         ensures pops { Pops T.cmp self.old.items.now self.old.len result self.new.items.now }
     {
-        let least = pop(self.items, self.len)?;
-        self.len -= 1;
+        let least = self.peek()?;
+        let last = self.len - 1;
+        let items = &mut *self.items;
+        items.swap(0, last);
+        sift_down(items, last);
+        self.len = last;
         Some(least)
     }
 
@@ -153,10 +156,14 @@ impl<'a, T: Ord + Copy> Heap<'a, T> {
         ensures len { self.new.len ≡ (if is_ok result then self.old.len + 1 else self.old.len) }
         ensures pushes { Pushes T.cmp self.old.items.now self.old.len x result self.new.items.now }
     {
-        if !push(self.items, self.len, x) {
+        let last = self.len;
+        if self.items.len() <= last {
             return Err(Full);
         }
-        self.len += 1;
+        let items = &mut *self.items;
+        items[last] = x;
+        sift_up(items, last);
+        self.len = last + 1;
         Ok(())
     }
 
@@ -175,19 +182,21 @@ impl<'a, T: Ord + Copy> Heap<'a, T> {
         Ok(())
     }
 
-    // Puts `x` in the place of the element at `i`, which it has to come before.
+    // Puts `x` in the place of the element at `i`, which it has to come before. It is inlined, since a search calls it for most
+    // of its arcs.
     #[inline(always)]
     pub fn lower(&mut self, i: usize, x: T) -> Result<(), LowerError>
         ensures same { self.new.items.ghost_name ≡ self.old.items.ghost_name }
         ensures len { self.new.len ≡ self.old.len }
         ensures lowers { Lowers T.cmp self.old.items.now self.old.len i x result self.new.items.now }
     {
-        if self.len <= i {
-            return Err(LowerError::NoElement);
-        }
-        if !lower(self.items, self.len, i, x) {
+        let old = self.as_slice().get(i).ok_or(LowerError::NoElement)?;
+        if !x.cmp(old).is_lt() {
             return Err(LowerError::NotBefore);
         }
+        let items = &mut *self.items;
+        items[i] = x;
+        sift_up(items, i);
         Ok(())
     }
 }

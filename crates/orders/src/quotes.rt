@@ -35,7 +35,8 @@ fn check(nodes: u8, order: Reserve, serial: u32) -> Result<(), Refusal>
     Ok(())
 }
 
-// Which links have room for an amount. A loop over the links that there are: `array::from_fn` would ask for all 128.
+// Which links have room for an amount. A loop over the links that there are: `array::from_fn` calls a closure for each of 128,
+// and took longer.
 fn with_room(links: &[Link], amount: u16) -> [bool; MOST_LINKS]
     requires { length links.now ≤ 128 }
     ensures { (e : ℕ) → e < length links.now → allowed result e ≡ room_for links.now amount e }

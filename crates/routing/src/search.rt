@@ -27,7 +27,8 @@ fn first_state(usable: &[bool], e: usize) -> State
     }
 }
 
-// The states that all arcs begin with. A loop over the flags that there are: `array::from_fn` would ask for all 128.
+// The states that all arcs begin with. A loop over the flags that are lent: `array::from_fn` calls a closure for each of 128,
+// and took longer.
 fn first_states(usable: &[bool]) -> [State; MOST_LINKS]
     ensures long { length result ≡ 128 }
     ensures marked { Marked usable.now result }
